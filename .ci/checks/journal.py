@@ -5,13 +5,15 @@ The model of the requests and their journal is `journal_router.py`. `disk_calls.
 and makes calls fail; `crash_images.py` makes from these calls the files that a crash may leave.
 
 - Each stored run of `once`, whole and cut into two processes at each message, gives the same replies, and the model's journal byte for byte.
-  So does a run of mixed requests (`mixed_requests.py`), some 4,000 of all actions, whole and cut at a few of them.
+  So does a run of mixed requests (`mixed_requests.py`), some 4,000 of all actions, whole and cut at a few of them; and one of 2,000 that is cut
+  at each fiftieth, with a clock that goes on from part to part by up to 30 days, and sometimes back.
 - No reply is written before the batches of its request are on the disk for sure.
 - What a crash may leave of the first run has the acknowledged batches, or also those of one append, and a further run goes on from there.
 - If a call of the disk fails, or the disk is full, replies, standard error, status and what a crash may leave are as they have to be. With room
   again a further run goes on.
 - A copy of the journal that is made meanwhile has what was replied before, and so has the journal of a run that is killed.
 - A file that is no journal, is damaged or is in use is refused, and not changed.
+- Archives of later runs retain what their days say, and the days of an update count from its moment.
 - `serve` ends after a disk fault. examples/journal/kill.py runs meanwhile.
 
 A word names another program to run. A case that fails has a line. The last line is `N passed, M failed`.
@@ -32,7 +34,8 @@ from journal_file import HEADER, batch_bytes, checked, journal, records
 from journal_router import RecordingRouter
 from journal_runs import COMMAND, IO_ERROR, JOURNALS, LIBRARY, NO_ROOM, NOW, SECONDS, Cases, Room, StoredRun
 from journal_runs import begin, calls_of, check, disk_failed, make, message, once, records_of, reply, run, stored_runs
-from router import QUEUE_ARN
+from mixed_requests import a_request
+from router import DAY, QUEUE_ARN
 from serving import COMMAND as SERVED
 from serving import Served, free_port
 
@@ -40,6 +43,8 @@ SEED = 33
 PARTS = 4
 SERVE_KILLS = 50
 READINGS = [0, 1_900_000_000]  # of mixed requests
+OVER_DAYS, PART = 2_000, 50  # requests by a clock that goes on, and how many are between two of its readings
+GOES_ON = [0, 1, 3_600, DAY // 2, DAY - 1, DAY, DAY + 1, 30 * DAY - 1, 30 * DAY, -1, -DAY]  # seconds
 LENGTHS, LONG_LENGTHS = range(2, 20_001, 60), [32_767, 262_144]  # bytes of their bodies
 CUTS = 4
 FAILED = (500, '{"__type":"InternalFailure","message":"The journal failed."}')
@@ -217,6 +222,32 @@ def mixed_requests(reading):
                 cases.meets(f"{name}, the end", ended, [b"", 0])
             cases.meets(f"{name}, the replies", first_difference(output, asked, wanted), None)
             cases.meets(f"{name}, the journal", difference(path.read_bytes(), model.journal), None)
+        cases.meets("check", check(path), checked(model.journal))
+    return cases
+
+
+def mixed_requests_over_days(began):
+    """Requests of all actions, in parts that are a process each. The clock of a part has gone on, or back, from that of the part before."""
+    cases, model, chance = Cases(), RecordingRouter(began), random.Random(f"{SEED} by days {began}")
+    parts, drops = [], 0  # drops: how often an archive does not retain all that it kept, as a part begins
+    for number in range(OVER_DAYS):
+        if number % PART == 0:
+            model.reading = max(model.reading + chance.choice(GOES_ON), 0)
+            parts.append((model.reading, [], []))
+            drops += sum(len(it.retained(model.moment)) < len(it.kept) for it in model.archives.values())
+        it = a_request(model, chance, chance.choice(LENGTHS[:100]))
+        status, body = model.answer(it.method, it.action, it.caller, it.value)
+        _, asked, wanted = parts[-1]
+        asked.append((it.method, mixed.message(it, number)))
+        wanted.append((status, body.encode()))
+    cases.meets("archives drop events", drops > 10, True)
+    with Room() as room:
+        path = room / "J"
+        for number, (reading, asked, wanted) in enumerate(parts):
+            output, *ended = once(path, b"".join(text for _, text in asked), reading)
+            cases.meets(f"part {number} at {reading}, the end", ended, [b"", 0])
+            cases.meets(f"part {number} at {reading}, the replies", first_difference(output, asked, wanted), None)
+        cases.meets("the journal", difference(path.read_bytes(), model.journal), None)
         cases.meets("check", check(path), checked(model.journal))
     return cases
 
@@ -450,6 +481,36 @@ def sends_that_fail():
     return cases
 
 
+def days_of_archives():
+    """An archive of one day keeps an event of 1000 up to 87399. More days that come by then keep it, and later ones do not bring it back."""
+    cases = Cases()
+    source = "arn:aws:events:us-east-1:111122223333:event-bus/default"
+    created = message("CreateArchive", f'{{"ArchiveName":"a","EventSourceArn":"{source}","RetentionDays":1}}') + message("PutEvents", SMALL_EVENT)
+    forever, described = message("UpdateArchive", '{"ArchiveName":"a","RetentionDays":0}'), message("DescribeArchive", '{"ArchiveName":"a"}')
+
+    def counted(path, asked, now):
+        output, *ended = once(path, asked, now)
+        cases.meets(f"the end at {now}", ended, [b"", 0])
+        return [int(it) for it in re.findall(rb'"EventCount":([0-9]+)', output)]
+
+    with Room() as room:
+        path, late = room / "J", room / "late"
+        cases.meets("a day, at 1000", counted(path, created + described, 1000), [1])
+        cases.meets("a day, at 87399", counted(path, described, 87_399), [1])
+        cases.meets("a day, at 87400", counted(path, described, 87_400), [0])
+        cases.meets("check, which goes by the last batch", check(path), checked(path.read_bytes()))
+        cases.meets("check counts the event", b"\nevents 1 archived 1 replays 0\n" in check(path)[1], True)
+        shutil.copyfile(path, late)
+        cases.meets("forever from 87399 on", counted(path, described + forever + described, 87_399), [1, 1])
+        cases.meets("forever, at 1000000", counted(path, described, 1_000_000), [1])
+        cases.meets("check after it", check(path), checked(path.read_bytes()))
+        cases.meets("forever from 87400 on", counted(late, described + forever + described, 87_400), [0, 0])
+        cases.meets("check after it, too late", check(late), checked(late.read_bytes()))
+        cases.meets("check counts none", b"\nevents 1 archived 0 replays 0\n" in check(late)[1], True)
+        cases.meets("a day again, at 87401", counted(late, message("UpdateArchive", '{"ArchiveName":"a","RetentionDays":1}') + described, 87_401), [0])
+    return cases
+
+
 # ---- serve
 
 
@@ -503,9 +564,10 @@ def tasks():
         yield f"failing {name}", failing_calls, [kind, name]
     for reading in READINGS:
         yield f"mixed requests at {reading}", mixed_requests, [reading]
+        yield f"mixed requests over days from {reading} on", mixed_requests_over_days, [reading]
     for name in stored_runs():
         yield name, cut_run, [name]
-    for task in (two_halves, copies, killed, opening_faults, full_file_system, refused_files, sends_that_fail):
+    for task in (two_halves, copies, killed, opening_faults, full_file_system, refused_files, sends_that_fail, days_of_archives):
         yield task.__name__, task, []
 
 

@@ -10,7 +10,7 @@ from deliveries import LONGEST_DELAY, LONGEST_TEXT, QUEUE_ARN, RETRIED, queue_na
 from endpoint_texts import ENDPOINTS, STORED_ENDPOINTS
 from patterns import Fault, read_json, read_pattern, spelled
 from policies import PolicyFault, read_policy, stored
-from router import BUS, BUSES_LIMIT, LAST_NUMBER, MOMENT_LIMIT, NAME, QUEUE, QUEUES_LIMIT, RULES_LIMIT, TARGETS_LIMIT, shown
+from router import ARCHIVE, ARCHIVES_LIMIT, BUS, BUSES_LIMIT, DAYS_LIMIT, LAST_NUMBER, MOMENT_LIMIT, NAME, QUEUE, QUEUES_LIMIT, RULES_LIMIT, TARGETS_LIMIT, shown
 
 HEADER = b"EBJRNL1\n"
 FIRST_GATE = len(HEADER)
@@ -187,11 +187,13 @@ OPERATION = OneOf(
         8: All(TEXT, Maybe(POLICY)),  # policy of a bus
         9: All(TEXT),  # queue made
         10: All(TEXT),  # queue deleted
+        11: All(TEXT, TEXT, Maybe(PATTERN), LENGTH),  # archive made: name, bus, days
+        12: All(TEXT, Maybe(PATTERN), LENGTH),  # archive changed: both as they are after it
+        13: All(TEXT),  # archive deleted
         14: All(LONG, TEXT, LONG, LONG, TEXT, Many(TEXT), Many(DELIVERY)),  # event: number, bus, changes so far, time, text, archives
         15: All(LONG, OUTCOME),  # attempt: delivery
         19: All(TEXT, LONG),  # messages deleted: queue, through
     },
-    lambda it: it[0] != 14 or not it[6],  # there are no archives yet
 )
 
 
@@ -246,12 +248,23 @@ class Delivery:
         self.due, self.failures = accepted, 0
 
 
+class Archive:
+    def __init__(self, bus, pattern, days):
+        self.bus, self.has_pattern, self.days = bus, pattern is not None, days
+        self.accepted = []  # of each event that is kept, the moment at which it was accepted
+
+    def drop(self, moment):
+        """Drops what is not retained."""
+        self.accepted = [it for it in self.accepted if self.days == 0 or it + 86_400 * self.days > moment]
+
+
 class Tables:
-    """The configuration, the deliveries and the queues after batches."""
+    """The configuration, the deliveries, the queues and the archives after batches."""
 
     def __init__(self):
         self.moment = self.records = self.operations = self.control = self.events = self.created = 0
         self.buses = {"default": {}}  # by name the rules, each with its targets, of which the two ARNs are kept
+        self.archives = {}  # by name
         self.queues = {}  # by name how many messages there ever were, and the numbers of those that are there
         self.pending = {}  # by number
         self.ended = {"delivered": 0, "dead-lettered": 0, "dropped": 0}
@@ -265,6 +278,8 @@ class Tables:
         for kind, *fields in operations:
             OPERATIONS[kind](self, *fields)
             self.control += kind in CONTROL
+        for it in self.archives.values():
+            it.drop(moment)
         self.records += 1
         self.operations += len(operations)
 
@@ -295,7 +310,7 @@ class Tables:
         self.buses[name] = {}
 
     def delete_bus(self, name):
-        self.must(name != "default", not self.rules(name))
+        self.must(name != "default", not self.rules(name), all(it.bus != name for it in self.archives.values()))
         del self.buses[name]
 
     def put_rule(self, bus, name, _pattern, _is_enabled):
@@ -340,9 +355,30 @@ class Tables:
         self.must(QUEUE_ARN + name not in arns)
         del self.queues[name]
 
+    def archive(self, name):
+        self.must(name in self.archives)
+        return self.archives[name]
+
+    def make_archive(self, name, bus, pattern, days):
+        self.must(re.fullmatch(ARCHIVE, name), bus in self.buses, name not in self.archives, len(self.archives) < ARCHIVES_LIMIT, days <= DAYS_LIMIT)
+        self.archives[name] = Archive(bus, pattern, days)
+
+    def change_archive(self, name, pattern, days):
+        archive = self.archive(name)
+        self.must(days <= DAYS_LIMIT, pattern is not None or not archive.has_pattern)
+        archive.drop(self.moment)
+        archive.has_pattern, archive.days = pattern is not None, days
+
+    def delete_archive(self, name):
+        self.archive(name)
+        del self.archives[name]
+
     # -- Events and deliveries
 
-    def accept(self, number, bus, control, time, text, _archives, deliveries):
+    def accept(self, number, bus, control, time, text, archives, deliveries):
+        self.must(archives == sorted(set(archives)))
+        for it in archives:
+            self.archive(it).accepted.append(self.moment)
         self.must(number == self.events + 1, re.fullmatch(BUS, bus), control <= self.control, time <= MOMENT_LIMIT, is_event(text))
         self.must(len(deliveries) <= DELIVERIES_LIMIT, all(len(row[3].encode()) <= LONGEST_TEXT for row in deliveries))
         self.events += 1
@@ -393,7 +429,7 @@ class Tables:
         ended = " ".join(f"{fate} {count}" for fate, count in self.ended.items())
         return (
             f"records {self.records} entries {self.operations} control {self.control}\n"
-            f"events {self.events} archived 0 replays 0\n"
+            f"events {self.events} archived {sum(len(it.accepted) for it in self.archives.values())} replays 0\n"
             f"duties {self.created} pending {len(self.pending)} {ended}\n"
             f"messages {sum(len(it) for _, it in self.queues.values())}\n"
         )
@@ -410,6 +446,9 @@ OPERATIONS = {
     8: Tables.set_policy,
     9: Tables.make_queue,
     10: Tables.delete_queue,
+    11: Tables.make_archive,
+    12: Tables.change_archive,
+    13: Tables.delete_archive,
     14: Tables.accept,
     15: Tables.attempt,
     19: Tables.delete_messages,

@@ -50,6 +50,7 @@ class RecordingRouter(Router):
 
     def record(self, moment, operations):
         self.payloads.append(batch_bytes(moment, operations))
+        self.latest = max(self.latest, moment)
 
     def served(self, action, caller, value):
         before = {(bus, rule): list(it.targets) for bus, row in self.buses.items() for rule, it in row.rules.items()}
@@ -62,7 +63,7 @@ class RecordingRouter(Router):
         elif action == "RouterLocal.DeleteMessages" and reply["Deleted"]:
             operations = [(19, value["QueueName"], int(str(getattr(value["Through"], "spelling", value["Through"]))))]
         if operations:
-            self.record(self.reading, operations)
+            self.record(self.moment, operations)
         return reply
 
     def put_target(self, rule, target):
@@ -70,9 +71,9 @@ class RecordingRouter(Router):
         made = rule.targets[target["Id"]]
         self.taken.append((made.name, made.arn, input_of(made.inputs), made.retry, made.dead_letter))
 
-    def accept(self, bus, entry, text):
+    def accept(self, bus, entry, text, archives):
         self.deliveries.rows = []
-        self.accepted.append((14, self.events, bus.name, self.control, self.time_of(entry), text, [], self.deliveries.rows))
+        self.accepted.append((14, self.events, bus.name, self.control, self.time_of(entry), text, archives, self.deliveries.rows))
 
     # -- The operations of a request that was accepted
 
@@ -83,6 +84,14 @@ class RecordingRouter(Router):
     def policy_row(self, bus):
         policy = self.buses[bus].policy
         return [(8, bus, None if policy is None else stored(policy))]
+
+    def archive_made(self, name):
+        it = self.archives[name]
+        return [(11, name, it.bus.name, it.text, it.days)]
+
+    def archive_changed(self, name):
+        it = self.archives[name]
+        return [(12, name, it.text, it.days)]
 
     def removed(self, bus, given, before):
         rule, names = given["Rule"], []
@@ -103,6 +112,9 @@ CHANGES = {
     "AWSEvents.RemoveTargets": lambda router, given, bus, _, before: router.removed(bus, given, before),
     "AWSEvents.PutPermission": lambda router, given, bus, *_: router.policy_row(bus),
     "AWSEvents.RemovePermission": lambda router, given, bus, *_: router.policy_row(bus),
+    "AWSEvents.CreateArchive": lambda router, given, *_: router.archive_made(given["ArchiveName"]),
+    "AWSEvents.UpdateArchive": lambda router, given, *_: router.archive_changed(given["ArchiveName"]),
+    "AWSEvents.DeleteArchive": lambda router, given, *_: [(13, given["ArchiveName"])],
     "RouterLocal.CreateQueue": lambda router, given, *_: [(9, given["QueueName"])],
     "RouterLocal.DeleteQueue": lambda router, given, *_: [(10, given["QueueName"])],
 }

@@ -1,10 +1,12 @@
 #!/usr/bin/env python3
-"""Makes a run for each seed of SEEDS in which a bus has 300 rules, and compares each reply with the model of the mixed runs (`router.py`).
+"""Makes a run for each seed of SEEDS in which a bus has 300 rules and 90 archives, and compares each reply with the model of the mixed runs
+(`router.py`).
 
 The rules' patterns have tests of all kinds over few keys, and the events have lists in lists. Each rule has one target, a queue of its
 own, so the messages of the queues show which rules an event matched. Of the 3,000 events each 20 are followed by a change of one rule: it is
-put again with another pattern, disabled, enabled, or deleted and created anew. Each 100 are followed by all deliveries that are due, and
-by all messages of all queues, which are then deleted. Required are the status and the body of each reply, as in the mixed runs.
+put again with another pattern, disabled, enabled, or deleted and created anew, and of one archive: it gets another pattern, or is deleted and
+created anew. Each 100 are followed by all deliveries that are due, by all messages of all queues, which are then deleted, and by what the
+archives keep. Required are the status and the body of each reply, as in the mixed runs.
 
 The last line is `N passed, M failed`.
 """
@@ -18,12 +20,12 @@ from mixed import EBUSD, PROGRAM, Failure, run
 from mixed_requests import Request
 from pattern_texts import KEYS, a_value, fields_of
 from patterns import Fault, holds, read_pattern, spelled, view_count
-from router import A_CALL_MOST, PEEKED_MOST, QUEUE_ARN, Router, Spelled
+from router import A_CALL_MOST, EVENTS_ARN, PEEKED_MOST, QUEUE_ARN, Router, Spelled
 
 READING = 1_900_000_000
 SECONDS = 600  # that one run may take
 SEEDS = [1, 2, 3]
-RULES, EVENTS, UNTIL_A_CHANGE, UNTIL_A_LOOK = 300, 3_000, 20, 100
+RULES, ARCHIVES, EVENTS, UNTIL_A_CHANGE, UNTIL_A_LOOK = 300, 90, 3_000, 20, 100
 SOURCES = ["shop.orders", "shop.users", "a"]
 MOST_VIEWS = 60  # of an event, since the model goes through all of them
 
@@ -75,14 +77,26 @@ def a_change(chance, name):
     return [removed, of("AWSEvents.DeleteRule", {"Name": name}), put(chance, name), given_its_queue(name)]
 
 
+def created(chance, name):
+    members = {"ArchiveName": name, "EventSourceArn": EVENTS_ARN + "event-bus/default"}
+    return of("AWSEvents.CreateArchive", {**members, "EventPattern": a_pattern(chance)})
+
+
+def a_change_of_an_archive(chance, name):
+    if chance.random() < 0.7:
+        return [of("AWSEvents.UpdateArchive", {"ArchiveName": name, "EventPattern": a_pattern(chance)})]
+    return [of("AWSEvents.DeleteArchive", {"ArchiveName": name}), created(chance, name)]
+
+
 def a_look(router, names):
-    """All deliveries that are due, and then all messages."""
+    """All deliveries that are due, and then all messages and archives."""
     while router.is_due:
         yield of("RouterLocal.DeliverDue", {"Budget": A_CALL_MOST})
     for name in names:
         while messages := router.queues[name].messages[:PEEKED_MOST]:
             yield of("RouterLocal.PeekMessages", {"QueueName": name, "Limit": PEEKED_MOST})
             yield of("RouterLocal.DeleteMessages", {"QueueName": name, "Through": messages[-1]["Number"]})
+    yield of("AWSEvents.ListArchives", {})
 
 
 def requests_of(router, chance):
@@ -92,12 +106,16 @@ def requests_of(router, chance):
         yield of("RouterLocal.CreateQueue", {"QueueName": name})
         yield put(chance, name)
         yield given_its_queue(name)
+    archives = [f"archive-{number}" for number in range(ARCHIVES)]
+    for name in archives:
+        yield created(chance, name)
     for number in range(1, EVENTS + 1):
         event = an_event(chance)
         entry = {"Source": event["source"], "DetailType": event["detail-type"], "Detail": Spelled(event["detail"])}
         yield of("AWSEvents.PutEvents", {"Entries": [entry]})
         if number % UNTIL_A_CHANGE == 0:
             yield from a_change(chance, chance.choice(names))
+            yield from a_change_of_an_archive(chance, chance.choice(archives))
         if number % UNTIL_A_LOOK == 0:
             yield of("RouterLocal.DutyCounts", {})
             yield from a_look(router, names)

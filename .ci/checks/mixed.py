@@ -24,8 +24,8 @@ import time
 from concurrent.futures import ProcessPoolExecutor
 
 import rows
-from mixed_requests import ACTIONS, a_request, all_that_is_due, conditions, faults_of_targets, in_order_of_names, inputs_of_targets
-from mixed_requests import most_bytes, one_by_one, request_of, to_the_limits, uses_of_queues
+from mixed_requests import ACTIONS, a_request, all_that_is_due, conditions, events_in_archives, faults_of_targets, in_order_of_names
+from mixed_requests import inputs_of_targets, most_bytes, one_by_one, request_of, to_the_limits, uses_of_queues
 from router import A_CALL, CALLS, PEEKED_MOST, TARGET_MEMBERS, Router
 
 PROGRAM = "crates/ebusd/out/ebusd"
@@ -47,6 +47,7 @@ POLICY_FAULTS = """TooLong NotJson TooDeep KeyTwice NotObject BadVersion BadSid 
 NO_BUS = "Event bus {} does not exist."
 NO_RULE = "Rule {} does not exist."
 NO_QUEUE = "Queue {} does not exist."
+NO_ARCHIVE = "Archive {} does not exist."
 REFUSALS = {
     "AWSEvents.CreateEventBus": ["Event bus {} already exists.", "Event bus limit 100 reached."],
     "AWSEvents.DeleteEventBus": ["The default bus stays.", NO_BUS, "Event bus {} is in use."],
@@ -69,6 +70,10 @@ REFUSALS = {
     "AWSEvents.PutEvents": [f"Parameter {it} is not valid." for it in ("Source", "DetailType", "Detail", "Time", "EventBusName")]
     + ["Detail is malformed.", "Not authorized for the source.", "The entry's bus does not exist."]
     + ["Denied by statement {}.", "No statement allows it.", "The request is over 262144 bytes."],
+    "AWSEvents.CreateArchive": [NO_BUS, "Archive {} already exists.", "Archive limit 100 reached."],
+    "AWSEvents.UpdateArchive": [NO_ARCHIVE],
+    "AWSEvents.DeleteArchive": [NO_ARCHIVE],
+    "AWSEvents.DescribeArchive": [NO_ARCHIVE],
     "RouterLocal.CreateQueue": ["Queue {} already exists.", "Queue limit 1000 reached."],
     "RouterLocal.DeleteQueue": [NO_QUEUE]
     + [f"{it} uses the queue." for it in ("a target", "a target's dead letters", "a delivery", "a delivery's dead letters", "a message")],
@@ -100,7 +105,7 @@ def wanted_refusals():
 def requests_of(router, chance):
     """The run's requests: first a few that make queues and rules, then one of each length, each fault alone, those at the limits,
     and what is left to deliver. Each is made for what the router has just now."""
-    for action in ("RouterLocal.CreateQueue", "AWSEvents.CreateEventBus", "AWSEvents.PutRule", "AWSEvents.PutTargets"):
+    for action in ("RouterLocal.CreateQueue", "AWSEvents.CreateEventBus", "AWSEvents.PutRule", "AWSEvents.PutTargets", "AWSEvents.CreateArchive"):
         for _ in range(8):
             make, _ = ACTIONS[action]
             yield request_of(action, make(router, chance), chance, 60_000)
@@ -110,7 +115,7 @@ def requests_of(router, chance):
         yield a_request(router, chance, length)
     for over in (0, 1):
         yield request_of("AWSEvents.PutEvents", most_bytes(over), chance, 300_000)
-    for make in (one_by_one, conditions, faults_of_targets, inputs_of_targets, uses_of_queues, in_order_of_names, to_the_limits, all_that_is_due):
+    for make in (one_by_one, conditions, faults_of_targets, inputs_of_targets, uses_of_queues, in_order_of_names, events_in_archives, to_the_limits, all_that_is_due):
         yield from make(router, chance)
     yield request_of("RouterLocal.DeliverDue", {"Budget": A_CALL}, chance, 20)
     yield request_of("RouterLocal.DutyCounts", {}, chance, 20)
@@ -170,8 +175,8 @@ def difference(got, wanted):
     return f"at byte {at} the body has {got[at : at + 60]!r}, and {wanted[at : at + 60]!r} is wanted"
 
 
-def compare(output, asked, counts):
-    """Compares each reply with the request's, in order."""
+def compare(output, asked, counts, settled=lambda body: body):
+    """Compares each reply with the request's, in order. A reply's body is compared after `settled`."""
     number = 0
     while (exchange := asked.get(timeout=SECONDS)) is not None:
         request, *wanted = exchange
@@ -179,6 +184,7 @@ def compare(output, asked, counts):
         if reply is None:
             raise Failure(f"there are {number} replies, and request {number + 1} has none")
         number += 1
+        reply = reply[0], settled(reply[1])
         if reply[0] != wanted[0]:
             raise Failure(f"{place(number, request)}: the status is {reply[0]}, and {wanted[0]} is wanted: {reply[1][:80]!r}, not {wanted[1][:80]!r}")
         if reply[1] != wanted[1]:

@@ -9,7 +9,7 @@ from input_texts import BAD_INPUTS, BAD_PATHS, BAD_TRANSFORMERS, DETAIL, INPUTS,
 from pattern_texts import a_pattern_text, an_event, no_event, spell
 from patterns import Number, spelled
 from policy_texts import BAD_MEMBERS, a_policy_text
-from router import CALLS, ENTRIES_SIZE, EVENTS_ARN, LAST_NUMBER, NO_OBJECT, OWNER, PEEKED_MOST, QUEUE_ARN, Spelled
+from router import ARCHIVE_STATES, CALLS, DAYS_LIMIT, ENTRIES_SIZE, EVENTS_ARN, LAST_NUMBER, NO_OBJECT, OWNER, PEEKED_MOST, QUEUE_ARN, Spelled
 
 BUS_ARN = EVENTS_ARN + "event-bus/"
 BUSES = ["default", "orders", "shop.bus", "b-1", "b_2", "B" * 256, "aws", "0", "-", "zz"]  # that a run makes before it fills all
@@ -18,6 +18,7 @@ BAD_CALLERS = ["", "1", "11112222333", "1111222233334", "1111 2222 3333", "11112
 BAD_CALLERS += ["arn:aws:iam::444455556666:root", "१११１２２２２３３３３"]
 RULES = 9  # rules of a bus that a run makes before it fills one
 QUEUES = 200  # queues that a run makes before it fills all
+ARCHIVES = 9  # archives that a run makes before it fills all
 
 SOURCES = [f"shop.{it}" for it in ("orders", "returns", "stock", "prices", "users", "carts")] + ["Ünï.код", "a"]
 TYPES = ["Order", "Return", "Item sold", "Price \\ \"new\"", "x", "two\nlines"]
@@ -126,7 +127,8 @@ def create_event_bus(_router, chance):
 
 
 def delete_event_bus(router, chance):
-    empty = [it for it in router.buses if not router.buses[it].rules]
+    used = {it.bus.name for it in router.archives.values()}
+    empty = [name for name, it in router.buses.items() if not it.rules and name not in used]
     return {"Name": chance.choice(empty if empty and chance.random() < 0.6 else BUSES)}
 
 
@@ -283,6 +285,40 @@ def remove_permission(router, chance):
     return {**named(chance, bus), **members}
 
 
+def some_archive(router, chance):
+    """The name of an archive, most of which exist."""
+    names = list(router.archives)
+    return chance.choice(names) if names and chance.random() < 0.9 else f"archive.{chance.randint(1, ARCHIVES)}"
+
+
+def kept_by(chance):
+    """The pattern and the days of an archive, as far as they are given."""
+    settings = {
+        "EventPattern": chance.choice([None, spelled(a_pattern(chance)), a_pattern_text(chance, an_event(chance))]),
+        "RetentionDays": chance.choice([None, 0, 1, 30, DAYS_LIMIT]),
+    }
+    return {key: it for key, it in settings.items() if it is not None or chance.random() < 0.3}
+
+
+def create_archive(router, chance):
+    name = f"archive.{chance.randint(1, ARCHIVES)}"
+    return {"ArchiveName": name, "EventSourceArn": BUS_ARN + some_bus(router, chance), **kept_by(chance)}
+
+
+def update_archive(router, chance):
+    return {"ArchiveName": some_archive(router, chance), **kept_by(chance)}
+
+
+def of_archive(router, chance):
+    return {"ArchiveName": some_archive(router, chance)}
+
+
+def list_archives(router, chance):
+    source = chance.choice([{}, {}, {"EventSourceArn": BUS_ARN + some_bus(router, chance)}, {"EventSourceArn": chance.choice(["", "default"])}])
+    state = chance.choice([{}, {}, {"State": "ENABLED"}, {"State": chance.choice(ARCHIVE_STATES)}])
+    return {**a_prefix(chance, ["archive.1", *router.archives]), **source, **state}
+
+
 def test_event_pattern(_router, chance):
     event = an_event(chance)
     text = no_event(chance, event) if chance.random() < 0.08 else spell(chance, event, 0.05)
@@ -391,6 +427,8 @@ BAD_ENTRIES += [[{**AN_ENTRY, "Resources": it}] for it in ("a", {}, [None], ["a"
 BAD_ENTRIES += [[{**AN_ENTRY, "Source": "", "Time": it}] for it in (True, [], {}, [0])]
 BAD_EVENTS = ["", "[1]", "1", "null", "{}", '{"source":"a"}', 1, {}, [], '{"id":1,"account":1,"source":1,"time":1,"region":1,"resources":1}']
 BAD_TEXTS = [1, {}, [], True, ["a"]]
+BAD_SOURCES = ["", "default", BUS_ARN, BUS_ARN + "a/b", BUS_ARN + "b" * 257, EVENTS_ARN + "archive/a", EVENTS_ARN + "rule/default", 1, {}]
+BAD_SOURCES += ["arn:aws:events:eu-west-1:111122223333:event-bus/default", " " + BUS_ARN + "default"]
 BAD_BUS_NAMES = ["", "a/b", "b" * 257, "é", BUS_ARN + "orders", 1, []]
 # By the member, or by the action and the member.
 BAD_VALUES = {
@@ -418,12 +456,17 @@ BAD_VALUES = {
     "Entries": BAD_ENTRIES,
     "Limit": BAD_COUNTS,
     "Budget": BAD_COUNTS,
+    "ArchiveName": ["", "a a", "a" * 49, "a/1", "é", 1, ["a"]],
+    "EventSourceArn": BAD_SOURCES,
+    ("AWSEvents.ListArchives", "EventSourceArn"): BAD_TEXTS,
+    ("AWSEvents.ListArchives", "State"): ["", "enabled", "RUNNING", "ENABLED ", 1, ["ENABLED"], True],
+    "RetentionDays": [-1, DAYS_LIMIT + 1, 2**32, 2**64, Number("-0"), Number("1.0"), Number("1e1"), "1", True, [1], {}],
     "Through": [-1, LAST_NUMBER + 1, 2**64, Number("-0"), Number("1.0"), Number("1e1"), "1", True, [1], {}],
 }
 IGNORED = [{"NextToken": "x"}, {"Force": True}, {"Limit": 1}, {"Limit": "x", "Force": [], "NextToken": None}]
 IGNORED += [{"Description": "x", "RoleArn": 1}, {"Tags": [{}]}]
 UNKNOWN = ["RouterLocal.EmptyQueue", "AWSEvents.DutyCounts", "AWSEvents.putEvents", "PutEvents", "", "RouterLocal.DescribeRule"]
-UNKNOWN += ["AWSEvents.CreateArchive", "AWSEvents.CreateQueue", None]
+UNKNOWN += ["AWSEvents.StartReplay", "RouterLocal.CreateArchive", "AWSEvents.CreateQueue", None]
 
 
 def spoil_members(action, members, chance):
@@ -478,6 +521,11 @@ ACTIONS = {
     "AWSEvents.RemovePermission": (remove_permission, 4),
     "AWSEvents.TestEventPattern": (test_event_pattern, 20),
     "AWSEvents.PutEvents": (put_events, 45),
+    "AWSEvents.CreateArchive": (create_archive, 4),
+    "AWSEvents.UpdateArchive": (update_archive, 3),
+    "AWSEvents.DeleteArchive": (of_archive, 2),
+    "AWSEvents.DescribeArchive": (of_archive, 4),
+    "AWSEvents.ListArchives": (list_archives, 3),
     "RouterLocal.CreateQueue": (create_queue, 4),
     "RouterLocal.DeleteQueue": (delete_queue, 2),
     "RouterLocal.PeekMessages": (peek_messages, 4),
@@ -544,6 +592,9 @@ def one_by_one(router, chance):
     for text in NO_PATTERNS:
         yield request_of("AWSEvents.PutRule", {"Name": "r", "EventPattern": text}, chance, 20_000)
         yield request_of("AWSEvents.TestEventPattern", {"EventPattern": text, "Event": "{}"}, chance, 20_000)
+        an_archive = {"ArchiveName": "a", "EventPattern": text}
+        yield request_of("AWSEvents.CreateArchive", {**an_archive, "EventSourceArn": BUS_ARN + "default"}, chance, 20_000)
+        yield request_of("AWSEvents.UpdateArchive", an_archive, chance, 20_000)
     for member, values in BAD_MEMBERS.items():
         for value in values:
             policy = {"Statement": [A_STATEMENT, {**A_STATEMENT, member: value}]}
@@ -681,11 +732,47 @@ def in_order_of_names(router, chance):
             yield request_of("RouterLocal.PeekMessages", {"QueueName": name}, chance, 100)
 
 
+def events_in_archives(router, chance):
+    """Archives of one bus with and without a pattern, and the events that they keep: before an update, after it, and after a deletion."""
+    bus = {"EventBusName": "archived"}
+
+    def made(action, members):
+        return request_of(f"AWSEvents.{action}", members, chance, 2_000)
+
+    def put():
+        details = ['{"state":"open"}', '{"state":"paid"}', "{}"]
+        yield made("PutEvents", {"Entries": [{**AN_ENTRY, "Detail": it, **bus} for it in details]})
+        yield made("PutEvents", {"Entries": [AN_ENTRY]})
+        yield made("ListArchives", {"EventSourceArn": BUS_ARN + "archived"})
+
+    for name in list(router.archives):
+        yield made("DeleteArchive", {"ArchiveName": name})
+    yield made("CreateEventBus", {"Name": "archived"})
+    for name, pattern in (("all", None), ("none", '{"source":["none"]}'), ("open", '{"detail":{"state":["open"]}}')):
+        created = {"ArchiveName": name, "EventSourceArn": BUS_ARN + "archived", "EventPattern": pattern}
+        yield made("CreateArchive", created)
+        yield made("CreateArchive", created)
+    yield from put()
+    yield made("UpdateArchive", {"ArchiveName": "open"})
+    yield made("UpdateArchive", {"ArchiveName": "none", "EventPattern": '{"detail":{"state":[{"exists":false}]}}'})
+    yield made("UpdateArchive", {"ArchiveName": "all", "RetentionDays": DAYS_LIMIT})
+    yield from put()
+    yield made("DeleteEventBus", {"Name": "archived"})
+    yield made("DeleteArchive", {"ArchiveName": "open"})
+    yield made("DescribeArchive", {"ArchiveName": "open"})
+    yield made("CreateArchive", {"ArchiveName": "open", "EventSourceArn": BUS_ARN + "default", "RetentionDays": 1})
+    yield from put()
+    for name in ("all", "none", "open"):
+        yield made("DescribeArchive", {"ArchiveName": name})
+        yield made("DeleteArchive", {"ArchiveName": name})
+    yield made("DeleteEventBus", {"Name": "archived"})
+
+
 # ---- Requests that reach the limits
 
 
 def to_the_limits(router, chance):
-    """Requests that make all buses, queues and rules of a bus that there may be, and one more of each; then a long policy."""
+    """Requests that make all buses, archives, queues and rules of a bus that there may be, and one more of each; then a long policy."""
     policies = iter(range(10**6))
 
     def made(action, members):
@@ -709,6 +796,11 @@ def to_the_limits(router, chance):
     yield made("ListRules", {"EventBusName": bus, "NamePrefix": "r29"})
     yield made("DeleteRule", {"Name": "r0", "EventBusName": bus})
     yield made("PutRule", {"Name": "r300", "EventPattern": '{"source":["a"]}', "EventBusName": bus})
+    while len(router.archives) < 100:
+        yield made("CreateArchive", {"ArchiveName": f"more.{len(router.archives)}", "EventSourceArn": BUS_ARN + "default", "EventPattern": '{"source":["none"]}'})
+    yield made("CreateArchive", {"ArchiveName": "one-more", "EventSourceArn": BUS_ARN + "default"})
+    yield made("CreateArchive", {"ArchiveName": next(iter(router.archives)), "EventSourceArn": BUS_ARN + "default"})
+    yield made("ListArchives", {"NamePrefix": "more.9"})
     while len(router.queues) < 1_000:
         yield made("CreateQueue", {"QueueName": f"more-{len(router.queues)}"})
     yield made("CreateQueue", {"QueueName": "one-more"})

@@ -18,7 +18,10 @@ from patterns import Fault, Number, holds, read_json, read_pattern, spelled
 
 OWNER = "111122223333"
 EVENTS_ARN = f"arn:aws:events:us-east-1:{OWNER}:"
-BUSES_LIMIT, RULES_LIMIT, TARGETS_LIMIT, QUEUES_LIMIT = 100, 300, 5, 1_000
+BUSES_LIMIT, RULES_LIMIT, TARGETS_LIMIT, QUEUES_LIMIT, ARCHIVES_LIMIT = 100, 300, 5, 1_000, 100
+DAYS_LIMIT = 2**31 - 1
+DAY = 86_400
+ARCHIVE_STATES = ["ENABLED", "DISABLED", "CREATING", "UPDATING", "CREATE_FAILED", "UPDATE_FAILED"]
 A_CALL = 100  # attempts of one DeliverDue, if it has no Budget
 A_CALL_MOST = 1_000
 PEEKED = 10  # messages that one PeekMessages shows, if it has no Limit
@@ -87,7 +90,9 @@ def a_text(expression=None):
 NAME = r"[A-Za-z0-9._-]{1,64}"
 BUS = r"[A-Za-z0-9._-]{1,256}"
 QUEUE = r"[A-Za-z0-9_-]{1,80}"
+ARCHIVE = r"[A-Za-z0-9._-]{1,48}"
 a_name = a_text(NAME)
+an_archive_name = a_text(ARCHIVE)
 a_bus_name = a_text(BUS)
 a_queue_name = a_text(QUEUE)
 
@@ -95,6 +100,12 @@ a_queue_name = a_text(QUEUE)
 def a_bus(value):
     """The name of a bus that is named by its name or its ARN."""
     return a_bus_name(a_text()(value).removeprefix(EVENTS_ARN + "event-bus/"))
+
+
+def a_bus_arn(value):
+    """The name of a bus that is named by its ARN."""
+    need(isinstance(value, str) and value.startswith(EVENTS_ARN + "event-bus/"))
+    return a_bus(value)
 
 
 def a_pattern(value):
@@ -280,6 +291,28 @@ class Rule:
         return {"Name": self.name, "Arn": self.arn, "EventPattern": self.text, "State": state, "EventBusName": self.bus.name}
 
 
+class Archive:
+    def __init__(self, name, bus, days, created):
+        self.name, self.bus, self.days, self.created = name, bus, days, created
+        self.text = self.pattern = None
+        self.kept = []  # of each event: the moment at which it was accepted, and the bytes of its text
+
+    def made(self):
+        """What a reply shows of an archive that is created or updated."""
+        return {"ArchiveArn": f"{EVENTS_ARN}archive/{self.name}", "CreationTime": self.created, "State": "ENABLED"}
+
+    def retained(self, moment):
+        """What it retains at a moment."""
+        return [it for it in self.kept if self.days == 0 or it[0] + DAY * self.days > moment]
+
+    def shown(self, moment, more):
+        """What a list shows at a moment, with some members more after the name and the source."""
+        sizes = [size for _, size in self.retained(moment)]
+        counts = {"RetentionDays": self.days, "SizeBytes": sum(sizes), "EventCount": len(sizes)}
+        source = {"ArchiveName": self.name, "EventSourceArn": self.bus.arn}
+        return {**source, **more, "State": "ENABLED", **counts, "CreationTime": self.created}
+
+
 def no_answer(_endpoint, _text):
     """The link if nobody listens."""
     return None
@@ -288,11 +321,18 @@ def no_answer(_endpoint, _text):
 class Router:
     def __init__(self, reading, link=no_answer):
         self.reading = reading
+        self.latest = 0  # the greatest moment of a batch; a run of one reading needs none
         self.caller = OWNER  # of the request that is being answered
         self.buses = {"default": Bus("default")}
+        self.archives = {}
         self.deliveries = Deliveries(link)
         self.events = 0
         self.causes = set()  # the action and the cause of each refusal so far
+
+    @property
+    def moment(self):
+        """The moment of a turn. It does not fall if the clock does."""
+        return max(self.reading, self.latest)
 
     # -- One request
 
@@ -336,6 +376,11 @@ class Router:
             raise missing("Rule", name)
         return rules[name]
 
+    def archive(self, name):
+        if name not in self.archives:
+            raise missing("Archive", name)
+        return self.archives[name]
+
     @property
     def queues(self):
         return self.deliveries.queues
@@ -348,7 +393,7 @@ class Router:
     @property
     def is_due(self):
         """Whether a delivery is due."""
-        return self.deliveries.is_due(self.reading)
+        return self.deliveries.is_due(self.moment)
 
     # -- Buses
 
@@ -365,7 +410,7 @@ class Router:
         name = given["Name"]
         if name == "default":
             raise Refusal(VALIDATION, "The default bus stays.")
-        if self.bus(name).rules:
+        if self.bus(name).rules or any(it.bus.name == name for it in self.archives.values()):
             raise Refusal(VALIDATION, "Event bus {} is in use.", name)
         del self.buses[name]
         return {}
@@ -475,6 +520,45 @@ class Router:
         bus.policy = policies.without_statement(bus.policy, given["StatementId"])
         return {}
 
+    # -- Archives
+
+    def create_archive(self, given):
+        bus, name = self.bus(given["EventSourceArn"]), given["ArchiveName"]
+        if name in self.archives:
+            raise Refusal(EXISTS, "Archive {} already exists.", name)
+        if len(self.archives) >= ARCHIVES_LIMIT:
+            raise Refusal(LIMIT, "Archive limit 100 reached.")
+        self.archives[name] = made = Archive(name, bus, given["RetentionDays"] or 0, self.moment)
+        made.text, made.pattern = given["EventPattern"] or (None, None)
+        return made.made()
+
+    def update_archive(self, given):
+        archive = self.archive(given["ArchiveName"])
+        archive.kept = archive.retained(self.moment)
+        if given["EventPattern"] is not None:
+            archive.text, archive.pattern = given["EventPattern"]
+        if given["RetentionDays"] is not None:
+            archive.days = given["RetentionDays"]
+        return archive.made()
+
+    def delete_archive(self, given):
+        self.archive(given["ArchiveName"])
+        del self.archives[given["ArchiveName"]]
+        return {}
+
+    def describe_archive(self, given):
+        archive = self.archive(given["ArchiveName"])
+        pattern = {} if archive.text is None else {"EventPattern": archive.text}
+        return {"ArchiveArn": archive.made()["ArchiveArn"], **archive.shown(self.moment, pattern)}
+
+    def list_archives(self, given):
+        found = in_order(self.archives, given["NamePrefix"])
+        if given["EventSourceArn"] is not None:
+            found = [it for it in found if it.bus.arn == given["EventSourceArn"]]
+        if given["State"] is not None:
+            found = [it for it in found if given["State"] == "ENABLED"]
+        return {"Archives": [it.shown(self.moment, {}) for it in found]}
+
     # -- Events
 
     def test_event_pattern(self, given):
@@ -535,19 +619,22 @@ class Router:
         }
         text = f'{compact(made)[:-1]},"detail":{detail}}}'
         made["detail"] = detail.tree
-        self.accept(bus, entry, text)
+        archives = [it for it in in_order(self.archives) if it.bus is bus and (it.pattern is None or holds(it.pattern, made))]
+        for it in archives:
+            it.kept.append((self.moment, len(text.encode())))
+        self.accept(bus, entry, text, [it.name for it in archives])
         for rule in in_order(bus.rules):
             if rule.is_enabled and rule.targets and holds(rule.pattern, made):
                 for target in in_order(rule.targets):
-                    sent = target.make_text(made, rule.arn, shown(self.reading)) if target.make_text else text
-                    self.deliveries.add(Delivery(rule.arn, target, sent, self.reading))
+                    sent = target.make_text(made, rule.arn, shown(self.moment)) if target.make_text else text
+                    self.deliveries.add(Delivery(rule.arn, target, sent, self.moment))
         return made["id"]
 
     def time_of(self, entry):
         return moment_of(entry["Time"]) if "Time" in entry else self.reading
 
-    def accept(self, bus, entry, text):
-        """An event has this text. Here for a router that keeps a journal."""
+    def accept(self, bus, entry, text, archives):
+        """An event has this text, and archives of these names keep it. Here for a router that keeps a journal."""
 
     # -- Queues
 
@@ -588,7 +675,7 @@ class Router:
     def deliver_due(self, given):
         fates = []
         while len(fates) < (given["Budget"] or A_CALL) and self.is_due:
-            fates.append(self.deliveries.step(self.reading))
+            fates.append(self.deliveries.step(self.moment))
         return {"Attempts": len(fates), **{it: fates.count(it) for it in self.deliveries.ended}}
 
     def duty_counts(self, _given):
@@ -654,6 +741,9 @@ def moment_of(value):
 # ---- The calls, and the members that each reads, in their order: the name, whether it is required, and what it may be
 
 ON_BUS = ("EventBusName", False, a_bus)
+AN_ARCHIVE = ("ArchiveName", True, an_archive_name)
+A_PATTERN = ("EventPattern", False, a_pattern)
+DAYS = ("RetentionDays", False, a_count(0, DAYS_LIMIT))
 CALLS = {
     "AWSEvents.CreateEventBus": (Router.create_event_bus, [("Name", True, a_bus_name)]),
     "AWSEvents.DeleteEventBus": (Router.delete_event_bus, [("Name", True, a_bus_name)]),
@@ -693,6 +783,14 @@ CALLS = {
         [ON_BUS, ("RemoveAllPermissions", False, one_of(True, False)), ("StatementId", False, a_text("[A-Za-z0-9_-]{1,64}"))],
     ),
     "AWSEvents.TestEventPattern": (Router.test_event_pattern, [("EventPattern", True, a_pattern), ("Event", True, an_event)]),
+    "AWSEvents.CreateArchive": (Router.create_archive, [AN_ARCHIVE, ("EventSourceArn", True, a_bus_arn), A_PATTERN, DAYS]),
+    "AWSEvents.UpdateArchive": (Router.update_archive, [AN_ARCHIVE, A_PATTERN, DAYS]),
+    "AWSEvents.DeleteArchive": (Router.delete_archive, [AN_ARCHIVE]),
+    "AWSEvents.DescribeArchive": (Router.describe_archive, [AN_ARCHIVE]),
+    "AWSEvents.ListArchives": (
+        Router.list_archives,
+        [("NamePrefix", False, a_text()), ("EventSourceArn", False, a_text()), ("State", False, one_of(*ARCHIVE_STATES))],
+    ),
     "AWSEvents.PutEvents": (Router.put_events, [("Entries", True, some_entries)]),
     "RouterLocal.CreateQueue": (Router.create_queue, [("QueueName", True, a_queue_name)]),
     "RouterLocal.DeleteQueue": (Router.delete_queue, [("QueueName", True, a_queue_name)]),

@@ -131,6 +131,28 @@ A_QUEUE = [
     ("DutyCounts", None, "{}", '{"Created":2,"Pending":0,"Delivered":2,"DeadLettered":0,"Dropped":0}'),
 ]
 
+AN_ARCHIVE = [
+    (
+        "CreateArchive",
+        None,
+        '{"ArchiveName":"a","EventSourceArn":"E:event-bus/default"}',
+        '{"ArchiveArn":"E:archive/a","CreationTime":1700000000,"State":"ENABLED"}',
+    ),
+    ("PutEvents", None, EVENT % "a", ACCEPTED % 1),
+    (
+        "DescribeArchive",
+        None,
+        '{"ArchiveName":"a"}',
+        '{"ArchiveArn":"E:archive/a","ArchiveName":"a","EventSourceArn":"E:event-bus/default","State":"ENABLED","RetentionDays":0,'
+        '"SizeBytes":197,"EventCount":1,"CreationTime":1700000000}',
+    ),
+    ("DeleteEventBus", None, '{"Name":"default"}', refused("ValidationException", "The default bus stays.")),
+    ("DeleteArchive", None, '{"ArchiveName":"a"}', "{}"),
+    ("UpdateArchive", None, '{"ArchiveName":"a"}', refused("ResourceNotFoundException", "Archive a does not exist.")),
+    ("ListArchives", None, '{"State":"FAILED"}', refused("ValidationException", "Member State is not valid.")),
+    ("ListArchives", None, "{}", '{"Archives":[]}'),
+]
+
 # Deliveries to an endpoint, accepted at 1000: the retry policy; the answers, the last one for ever (None is no answer); the
 # readings of the DeliverDues, or ALL for each at which something is due; those at which there was an attempt; and the error
 # code, the condition and the retries of the dead letter, or no code if it was delivered.
@@ -246,9 +268,36 @@ def check_long_text():
     assert letter["Body"] == "{}" and list(letter["Attributes"].values())[2:] == ["TEXT_TOO_LONG", "The text is over 1048576 bytes.", "", "0"]
 
 
+# An archive of one day with an event that was accepted at 1000: the days that it gets and when, the reading of a DescribeArchive after it,
+# and whether it then retains the event.
+DAYS = [
+    (None, None, 87_399, 1),
+    (None, None, 87_400, 0),
+    (0, 87_399, 250_000_000_000, 1),
+    (0, 87_400, 87_400, 0),
+    (2, 87_399, 173_799, 1),
+    (2, 87_399, 173_800, 0),
+    (2, 87_400, 87_399, 0),
+    (2_147_483_647, 1000, 250_000_000_000, 1),
+]
+
+
+def check_days():
+    for days, at, now, wanted in DAYS:
+        router = Router(1000)
+        ask(router, "CreateArchive", '{"ArchiveName":"a","EventSourceArn":"E:event-bus/default","RetentionDays":1}')
+        ask(router, "PutEvents", EVENT % "a")
+        if days is not None:
+            router.reading = at
+            ask(router, "UpdateArchive", '{"ArchiveName":"a","RetentionDays":%d}' % days)
+        router.reading = now
+        found = json.loads(ask(router, "DescribeArchive", '{"ArchiveName":"a"}'))["EventCount"]
+        assert found == wanted, f"the model's archive with {days} days from {at} on retains {found} events at {now}"
+
+
 def check():
     """Makes each row with the model. Raises an AssertionError at the first other reply."""
-    for rows in (A_POLICY, A_FULL_RULE, A_BUS, A_QUEUE):
+    for rows in (A_POLICY, A_FULL_RULE, A_BUS, A_QUEUE, AN_ARCHIVE):
         router = Router(1_700_000_000)
         for action, caller, body, wanted in rows:
             reply = ask(router, action, body, caller)
@@ -257,6 +306,7 @@ def check():
         check_delivery(*row)
     check_order()
     check_long_text()
+    check_days()
     for text, wanted in POLICY_FAULTS:
         _, reply = Router(0).answer("POST", "AWSEvents.PutPermission", None, {"Policy": text.replace("@", A_REST), "EventBusName": "no"})
         kind = "PolicyLengthExceededException" if "TooLong" in wanted else "ValidationException"

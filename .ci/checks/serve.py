@@ -820,9 +820,13 @@ def shows_the_time(target):
     return make({}, "", "then") != make({}, "", "now")
 
 
+MODEL_NOW = 1_700_000_000
+CREATION = re.compile(rb'"CreationTime":([0-9]{10})')
+
+
 def mixed_exchanges():
-    """Requests of all kinds, each with the model's reply."""
-    router, chance = Router(1_700_000_000), random.Random(SEED)
+    """Requests of all kinds, each with the model's reply; then what the model's archives keep, each event once for each of its archives."""
+    router, chance = Router(MODEL_NOW), random.Random(SEED)
 
     def requests():
         for length in range(2, 20_001, 9):
@@ -830,20 +834,27 @@ def mixed_exchanges():
         for make in (conditions, uses_of_queues):
             yield from make(router, chance)
 
+    exchanges = []
     for request in requests():
         request = settled(request, chance)
         status, body = router.answer(request.method, request.action, request.caller, request.value)
-        yield request, status, body.encode()
+        exchanges.append((request, status, body.encode()))
+    return exchanges, sum(len(it.kept) for it in router.archives.values())
 
 
 def mixed_requests_over_tcp():
     """The replies are the model's, with which mixed.py compares those of `once`. The one worker makes no delivery by itself while
-    the client is served, so each reply follows from the requests before it."""
-    exchanges = list(mixed_exchanges())
+    the client is served, so each reply follows from the requests before it, but for the times at which archives were created."""
+    exchanges, archived = mixed_exchanges()
     refused = sum(status == 400 for _, status, _ in exchanges)
     if not len(exchanges) / 10 < refused < len(exchanges) * 9 / 10:
         raise Failure(f"{refused} of {len(exchanges)} requests are refused: the run is not mixed")
-    asked, counts = queue.Queue(), {}
+    asked, counts, created = queue.Queue(), {}, []
+
+    def at_one_time(body):
+        created.extend(map(int, CREATION.findall(body)))
+        return CREATION.sub(b'"CreationTime":%d' % MODEL_NOW, body)
+
     for exchange in [*exchanges, None]:
         asked.put(exchange)
     # All is made before the client connects, because one worker closes a client that is idle for 0.25 s.
@@ -854,14 +865,16 @@ def mixed_requests_over_tcp():
             client.send(messages)
             client.socket.shutdown(socket.SHUT_WR)
 
-        began = time.monotonic()
-        together([send, lambda: compare(client.file, asked, counts)])
+        began, first = time.monotonic(), int(time.time())
+        together([send, lambda: compare(client.file, asked, counts, at_one_time)])
         if time.monotonic() - began > 55:
             raise Failure("the run took more than 55 s: a delivery may have become too old")
+        if not first <= min(created) <= max(created) <= time.time():
+            raise Failure(f"archives were created at {min(created)} to {max(created)}, and the run began at {first}")
         output, status = it.over()
         expect("the status", status, 0)
         events = sum(body.count(b'"EventId"') for _, _, body in exchanges)
-        expect("the summary's events", output.splitlines()[1], b"events %d archived 0 replays 0" % events)
+        expect("the summary's events", output.splitlines()[1], b"events %d archived %d replays 0" % (events, archived))
 
 
 # ---- Real clients

@@ -1,5 +1,5 @@
 #!/usr/bin/env python3
-"""A program of a boto3 user. It makes a bus, a rule and a target, puts ten events, and receives them.
+"""A program of a boto3 user. It makes a bus, an archive, a rule and a target, puts ten events, and receives them.
 
     sdk.py 9100
 
@@ -25,7 +25,8 @@ def run(port):
     wait_for_router(port)
     events = boto3.client("events", endpoint_url=f"http://127.0.0.1:{port}")
     with Endpoint() as endpoint:
-        events.create_event_bus(Name="sdk")
+        bus = events.create_event_bus(Name="sdk")["EventBusArn"]
+        events.create_archive(ArchiveName="sdk", EventSourceArn=bus, RetentionDays=1)
         events.put_rule(Name="orders", EventBusName="sdk", EventPattern='{"source":["shop.orders"]}')
         put = events.put_targets(Rule="orders", EventBusName="sdk", Targets=[{"Id": "here", "Arn": endpoint.url}])
         if put["FailedEntryCount"]:
@@ -34,6 +35,9 @@ def run(port):
         put = events.put_events(Entries=[{**order, "Detail": '{"order":%d}' % it} for it in range(10)])
         if put["FailedEntryCount"]:
             raise Refused(f"put_events fails: {put['Entries']}")
+        kept = events.describe_archive(ArchiveName="sdk")["EventCount"]
+        if kept != 10:
+            raise Refused(f"the archive keeps {kept} events")
         for event in endpoint.receive([it["EventId"] for it in put["Entries"]]):
             print(f"received {event['id']} {event['detail-type']} {event['detail']}")
         # boto3 has no call for an action of the router alone.

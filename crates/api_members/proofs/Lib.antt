@@ -18,3 +18,4 @@ pub mod PatternLemmas
 pub mod PolicyLemmas
 pub mod CheckedLemmas
 pub mod TextLemmas
+pub mod ArnLemmas

@@ -1,8 +1,10 @@
 -- Which values are valid for a member.
-use Rattle.std.specs.Prelude.{◌≡◌, ℕ, nat_le, ◌⊎◌, Bool, true, false, ◌&&◌, List, length, Option, is_some, option_and_then, unwrap_or, codes, IsSome, IsTrue}
+use Rattle.std.specs.Prelude.{◌≡◌, ℕ, nat_le, ◌⊎◌, Bool, true, false, ◌&&◌, ◌||◌, List, [], length, Option, is_some, option_and_then, unwrap_or, codes, IsSome, IsTrue}
 use Rattle.std.specs.List.{list_all}
+use Rattle.std.specs.Str.{bytes_eq}
 use Rattle.json_text.specs.Tree.{Tree, truth}
-use Rattle.event_shape.specs.Names.{IsQueueName, IsShortName, IsBusName, is_short_name, bus_in, default_bus, is_account}
+use Rattle.event_arns.specs.Arns.{IsBusArn}
+use Rattle.event_shape.specs.Names.{IsQueueName, IsShortName, IsBusName, IsArchiveName, is_short_name, is_bus_name, bus_in, bus_arn, after_prefix, named, default_bus, is_account}
 use Rattle.bus_policy.specs.Text.{IsPolicyText}
 use Rattle.bus_policy.specs.StatementId.{IsStatementId}
 use Rattle.pattern_meaning.specs.Pattern.{Pattern}
@@ -22,6 +24,15 @@ use Rattle.api_members.specs.Event.{GivesEvent}
 abbrev pub GivesBus : List ℕ → Type 0
 GivesBus t = IsTrue (is_some (bus_in t))
 
+-- a bus's ARN
+abbrev pub GivesBusArn : List ℕ → Type 0
+GivesBusArn t = (bus : List ℕ) × IsBusArn t bus
+
+-- The name of the bus whose ARN the text is.
+-- Shown by: a_bus_name_is_taken_for_an_arn.edit.
+abbrev pub bus_of_source : List ℕ → Option (List ℕ)
+bus_of_source t = named is_bus_name (after_prefix (bus_arn []) t)
+
 -- the text is some pattern
 abbrev pub IsPattern : List ℕ → Type 0
 IsPattern t = (p : Pattern) × IsPatternText t p
@@ -29,6 +40,18 @@ IsPattern t = (p : Pattern) × IsPatternText t p
 -- the text is a rule's state
 abbrev pub IsState : List ℕ → Type 0
 IsState t = (t ≡ codes "ENABLED") ⊎ (t ≡ codes "DISABLED")
+
+-- the states of an archive that last, and those that pass (API Reference, ArchiveState)
+abbrev pub is_lasting_state : List ℕ → Bool
+is_lasting_state t =
+    bytes_eq t (codes "ENABLED") || bytes_eq t (codes "DISABLED") || bytes_eq t (codes "CREATE_FAILED") || bytes_eq t (codes "UPDATE_FAILED")
+
+abbrev pub is_passing_state : List ℕ → Bool
+is_passing_state t = bytes_eq t (codes "CREATING") || bytes_eq t (codes "UPDATING")
+
+-- the text is the state of an archive
+abbrev pub is_archive_state : List ℕ → Bool
+is_archive_state t = is_lasting_state t || is_passing_state t
 
 -- the text is some policy
 abbrev pub GivesPolicy : List ℕ → Type 0
@@ -60,9 +83,9 @@ are_few test most values = nat_le 1 (length values) && nat_le (length values) mo
 abbrev pub is_list_of : (Tree → Bool) → ℕ → Tree → Bool
 is_list_of test most tree = must_pass (are_few test most) (list_in tree)
 
--- Which values are valid, a line for each syntax: a queue's, a rule's or a bus's name, a bus's name or ARN, any text, a target's ARN, a
--- pattern's text, an event's text, a state, a whole number within limits, a list of 1 to 10 entries, of 1 to 100 targets or of 1 to 100
--- targets' ids, a policy's text, a StatementId, `events:PutEvents`, an account or `*`, a truth value. A member that is not served is never
+-- Which values are valid, a line for each syntax: a queue's, a rule's or a bus's name, a bus's name or ARN, a bus's ARN, an archive's name,
+-- any text, a target's ARN, a pattern's text, an event's text, the state of a rule or of an archive, a whole number within limits, a list
+-- of 1 to 10 entries, of 1 to 100 targets or of 1 to 100 targets' ids, a policy's text, a StatementId, `events:PutEvents`, an account or `*`, a truth value. A member that is not served is never
 -- valid.
 -- Shown by: tables api_members.rows: a_value_is_valid.
 abbrev pub IsValid : Syntax → Tree → Type 0
@@ -70,11 +93,14 @@ IsValid syntax.QueueName tree = IsTextThat IsQueueName tree
 IsValid syntax.RuleName tree = IsTextThat IsShortName tree
 IsValid syntax.BusName tree = IsTextThat IsBusName tree
 IsValid syntax.Bus tree = IsTextThat GivesBus tree
+IsValid syntax.BusArn tree = IsTextThat GivesBusArn tree
+IsValid syntax.ArchiveName tree = IsTextThat IsArchiveName tree
 IsValid syntax.AnyText tree = IsTrue (is_text tree)
 IsValid syntax.TargetArn tree = IsTextThat IsTargetArn tree
 IsValid syntax.Pattern tree = IsTextThat IsPattern tree
 IsValid syntax.Event tree = IsTextThat GivesEvent tree
 IsValid syntax.State tree = IsTextThat IsState tree
+IsValid syntax.ArchiveState tree = IsTextThat (λ t. IsTrue (is_archive_state t)) tree
 IsValid (syntax.Count least most) tree = IsSome (count_of least most tree)
 IsValid syntax.Entries tree = IsTrue (is_list_of is_entry 10 tree)
 IsValid syntax.Targets tree = IsTrue (is_list_of is_target 100 tree)

@@ -12,6 +12,10 @@ pub enum Syntax {
     BusName,
     /// The name of an event bus, or its ARN.
     Bus,
+    /// The ARN of an event bus.
+    BusArn,
+    /// The name of an archive.
+    ArchiveName,
     /// Any text.
     AnyText,
     /// The ARN of a queue, or an endpoint.
@@ -20,8 +24,10 @@ pub enum Syntax {
     Pattern,
     /// The text of an event.
     Event,
-    /// `ENABLED` or `DISABLED`.
+    /// The state of a rule: `ENABLED` or `DISABLED`.
     State,
+    /// The state of an archive, one of six.
+    ArchiveState,
     /// A whole number from `least` to `most`, both included.
     Count { least: u64, most: u64 },
     /// 1 to 10 entries of a PutEvents.

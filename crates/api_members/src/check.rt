@@ -15,8 +15,9 @@ use crate::fault::CallFault;
 use crate::json_type::is_text;
 use crate::members::given;
 use crate::value::{
-    are_entries, are_ids, are_targets, is_bus, is_named_bus, is_principal, is_put_events, is_queue,
-    is_rule, is_sid, is_state, is_target_arn, is_truth,
+    are_entries, are_ids, are_targets, is_archive, is_archive_state, is_arn_of_bus, is_bus,
+    is_named_bus, is_principal, is_put_events, is_queue, is_rule, is_sid, is_state, is_target_arn,
+    is_truth,
 };
 use crate::why::{policy_why_name, why_name};
 use api_replies::{Cause, Member};
@@ -69,11 +70,14 @@ fn check_value(alloc: Global, member: Member, syntax: Syntax, value: &Json) -> R
         Syntax::RuleName => valid_if(is_rule(value), member),
         Syntax::BusName => valid_if(is_named_bus(value), member),
         Syntax::Bus => valid_if(is_bus(value), member),
+        Syntax::BusArn => valid_if(is_arn_of_bus(value), member),
+        Syntax::ArchiveName => valid_if(is_archive(value), member),
         Syntax::AnyText => valid_if(is_text(value), member),
         Syntax::TargetArn => valid_if(is_target_arn(alloc, value)?, member),
         Syntax::Pattern => check_pattern(alloc, member, value),
         Syntax::Event => check_event(alloc, member, value),
         Syntax::State => valid_if(is_state(value), member),
+        Syntax::ArchiveState => valid_if(is_archive_state(value), member),
         Syntax::Count { least, most } => {
             valid_if(count_of(value, least, most).is_some(), member)
         }

@@ -27,4 +27,4 @@ pub use members::{given, members_in, text_given, text_of, values_in};
 pub use target::{
     age_given, attempts_given, read_dead_letter, read_input, read_input_path, read_transformer,
 };
-pub use value::bus_given;
+pub use value::{bus_given, bus_of_source};

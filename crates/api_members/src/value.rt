@@ -1,25 +1,27 @@
 //! Which values are valid for a member.
-ghost use Rattle.std.specs.Prelude.{◌≡◌, ◌↔◌, ◌&&◌, nat_le, IsTrue, IfOk, codes, length};
+ghost use Rattle.std.specs.Prelude.{◌≡◌, ◌↔◌, ◌&&◌, nat_le, None, Some, IsTrue, IfOk, MatchOption, codes, length};
 ghost use Rattle.std.specs.List.{list_all};
 ghost use Rattle.std.specs.Option.{option_copied};
 ghost use Rattle.json_text.specs.Tree.{members_of};
 ghost use Rattle.json_text.specs.View.{tree_of, trees_of, pairs_of};
 ghost use Rattle.json_text.specs.Access.{IsTextThat};
-ghost use Rattle.event_shape.specs.Names.{IsBusName, IsQueueName, IsShortName};
+ghost use Rattle.event_shape.specs.Names.{IsArchiveName, IsBusName, IsQueueName, IsShortName};
 ghost use Rattle.bus_policy.specs.StatementId.{IsStatementId};
 ghost use Rattle.rule_targets.specs.Checks.{IsTargetArn};
-ghost use Rattle.api_members.specs.Given.{text_given};
+ghost use Rattle.api_members.specs.Given.{text_given, text_of};
 ghost use Rattle.api_members.specs.Entry.{is_entry};
 ghost use Rattle.api_members.specs.Target.{is_target};
 ghost use Rattle.api_members.specs.Value as spec;
 
 use crate::entry::is_entry;
-use crate::members::{list_in, text_given};
+use crate::members::{list_in, text_given, text_of};
 use crate::target::is_target;
 use api_replies::Member;
 use bus_policy::is_statement_id;
+use event_arns::bus_of_arn;
 use event_shape::{
-    DEFAULT_BUS, bus_of, is_account, is_bus_name, is_queue_name, is_rule_name, is_target_id,
+    DEFAULT_BUS, bus_of, is_account, is_archive_name, is_bus_name, is_queue_name, is_rule_name,
+    is_target_id,
 };
 use json_text::{Json, NoMemory, Text};
 use std::alloc::Global;
@@ -89,6 +91,43 @@ fn bus_name(text: Option<&str>) -> &str
     }
 }
 
+/// Whether the value is the ARN of a bus; a name is none.
+pub(crate) fn is_arn_of_bus(value: &Json) -> bool
+    ensures { IsTrue result ↔ IsTextThat spec.GivesBusArn (tree_of value.now) }
+{
+    match value {
+        Json::Str(text) => gives_bus_arn(text.as_str()),
+        Json::Null | Json::Truth(_) | Json::Num(_) | Json::List(_) | Json::Obj(_) => false,
+    }
+}
+
+fn gives_bus_arn(text: &str) -> bool
+    ensures { IsTrue result ↔ spec.GivesBusArn text.now }
+{
+    match bus_of_arn(text) {
+        Some(_) => true,
+        None => false,
+    }
+}
+
+/// The name of the bus whose ARN the member gives.
+pub fn bus_of_source(members: &[(Text, Json)], member: Member) -> Option<&str>
+    ensures { MatchOption result
+        (spec.bus_of_source (text_of member (members_of (pairs_of members.now))) ≡ None)
+        (λ bus. spec.bus_of_source (text_of member (members_of (pairs_of members.now))) ≡ Some bus.now) }
+{
+    bus_of_arn(text_of(members, member))
+}
+
+pub(crate) fn is_archive(value: &Json) -> bool
+    ensures { IsTrue result ↔ IsTextThat IsArchiveName (tree_of value.now) }
+{
+    match value {
+        Json::Str(text) => is_archive_name(text.as_str()),
+        Json::Null | Json::Truth(_) | Json::Num(_) | Json::List(_) | Json::Obj(_) => false,
+    }
+}
+
 /// Whether the value is the ARN of a queue, or an endpoint.
 pub(crate) fn is_target_arn(alloc: Global, value: &Json) -> Result<bool, NoMemory>
     ensures { IfOk result (λ b. IsTrue b ↔ IsTextThat IsTargetArn (tree_of value.now)) }
@@ -155,6 +194,33 @@ fn is_state_name(text: &str) -> bool
     ensures { IsTrue result ↔ spec.IsState text.now }
 {
     text == "ENABLED" || text == "DISABLED"
+}
+
+pub(crate) fn is_archive_state(value: &Json) -> bool
+    ensures { IsTrue result ↔ IsTextThat (λ t. IsTrue (spec.is_archive_state t)) (tree_of value.now) }
+{
+    match value {
+        Json::Str(text) => is_archive_state_name(text.as_str()),
+        Json::Null | Json::Truth(_) | Json::Num(_) | Json::List(_) | Json::Obj(_) => false,
+    }
+}
+
+fn is_archive_state_name(text: &str) -> bool
+    ensures { result ≡ spec.is_archive_state text.now }
+{
+    is_lasting_state(text) || is_passing_state(text)
+}
+
+fn is_lasting_state(text: &str) -> bool
+    ensures { result ≡ spec.is_lasting_state text.now }
+{
+    text == "ENABLED" || text == "DISABLED" || text == "CREATE_FAILED" || text == "UPDATE_FAILED"
+}
+
+fn is_passing_state(text: &str) -> bool
+    ensures { result ≡ spec.is_passing_state text.now }
+{
+    text == "CREATING" || text == "UPDATING"
 }
 
 /// Whether the value is a list of 1 to 10 entries.

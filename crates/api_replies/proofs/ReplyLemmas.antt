@@ -2,7 +2,7 @@
 use Rattle.std.proofs.Common.{◌≡◌, ℕ, ◌+◌, Bool, inl, inr, List, [], ◌∷◌, ◌++◌, length, sym, refl, ap, ◌∙◌, append_assoc, length-append, arith}
 use Rattle.std.specs.Prelude.{codes, decimal}
 use Rattle.json_text.specs.Compact.{compact_text}
-use Rattle.api_replies.specs.Reply.{Counts, counted}
+use Rattle.api_replies.specs.Reply.{Counts, counted, stepped}
 use Rattle.api_replies.specs.Written.{allow_field, message_with, message_text, reply_text, IsServedStatus}
 use Rattle.api_replies.specs.Pieces.{status_line, fields_text, head_end, head_text}
 
@@ -72,4 +72,26 @@ counts_joined n len close is =
     (decimal n.dead_lettered) dropped_key (decimal n.dropped) (125 ∷ [])
     ∙ ap (λ l. head_text 200 len close ++ l) (sym (counts_body n))
     ∙ ap (λ m. head_text 200 m close ++ body) (is ∙ sym (counts_len n))
+    ∙ reply_joined [] body 200 close (inl refl)
+
+-- the number of steps between the other bytes of its body
+abbrev pub steps_key : List ℕ
+steps_key = 123 ∷ 34 ∷ (codes "Steps" ++ 34 ∷ 58 ∷ [])
+
+steps_body : (n : ℕ) → compact_text (stepped n).body ≡ steps_key ++ (decimal n ++ 125 ∷ [])
+steps_body n = simp append_assoc
+
+steps_len : (n : ℕ) → length (compact_text (stepped n).body) ≡ 10 + length (decimal n)
+steps_len n = ap length (steps_body n) ∙ simp length-append (omega arith)
+
+joined_steps : (h a b c : List ℕ) → ((h ++ a) ++ b) ++ c ≡ h ++ (a ++ (b ++ c))
+joined_steps h a b c = simp append_assoc
+
+pub steps_joined : (n len : ℕ) (close : Bool) → len ≡ 10 + length (decimal n)
+    → ((head_text 200 len close ++ steps_key) ++ decimal n) ++ 125 ∷ [] ≡ reply_text (stepped n) close
+steps_joined n len close is =
+    let body = compact_text (stepped n).body in
+    joined_steps (head_text 200 len close) steps_key (decimal n) (125 ∷ [])
+    ∙ ap (λ l. head_text 200 len close ++ l) (sym (steps_body n))
+    ∙ ap (λ m. head_text 200 m close ++ body) (is ∙ sym (steps_len n))
     ∙ reply_joined [] body 200 close (inl refl)

@@ -83,3 +83,8 @@ counted n = served (
     ∷ (codes "DeadLettered", number (decimal n.dead_lettered))
     ∷ (codes "Dropped", number (decimal n.dropped))
     ∷ [])
+
+-- The reply to a StepReplays that made this number of steps.
+-- Shown by: proofs alone.
+abbrev pub stepped : ℕ → Reply
+stepped steps = served ((codes "Steps", number (decimal steps)) ∷ [])

@@ -24,8 +24,8 @@ pub enum Cause {
     NotFound { kind: Kind, name: Text },
     Exists { kind: Kind, name: Text },
     LimitReached(Kind),
-    /// What is to be deleted is still used: an event bus by a rule; a queue by a target, a dead-letter setting, a pending delivery
-    /// or a message.
+    /// What is to be deleted is still used: an event bus by a rule, an archive or a running replay; a queue by a target, a
+    /// dead-letter setting, a pending delivery or a message.
     InUse { kind: Kind, name: Text },
     /// The rule that is to be deleted has targets.
     HasTargets { name: Text },
@@ -33,6 +33,12 @@ pub enum Cause {
     DefaultBusStays,
     /// A target has more than one of Input, InputPath and InputTransformer.
     MoreThanOneInput,
+    /// The destination of a replay is not the bus of its archive.
+    OtherDestination,
+    /// The range of a replay ends before it begins.
+    EmptyRange,
+    /// The replay that is to be cancelled is not running.
+    NotRunning { name: Text },
     /// The policy of the bus has no statement with this StatementId.
     NoStatement { sid: Text },
     /// The policy of the bus has a statement with this StatementId already.
@@ -70,7 +76,10 @@ impl Cause {
             | Cause::InUse { kind: _, name: _ }
             | Cause::HasTargets { name: _ }
             | Cause::DefaultBusStays
-            | Cause::MoreThanOneInput => "ValidationException",
+            | Cause::MoreThanOneInput
+            | Cause::OtherDestination
+            | Cause::EmptyRange => "ValidationException",
+            Cause::NotRunning { name: _ } => "IllegalStatusException",
             Cause::NotAPattern { why: _, path: _ } => "InvalidEventPatternException",
             Cause::NotFound { kind: _, name: _ } => "ResourceNotFoundException",
             Cause::Exists { kind: _, name: _ } => "ResourceAlreadyExistsException",
@@ -106,6 +115,11 @@ impl Cause {
             Cause::HasTargets { name } => has_targets_message(alloc, name.as_str()),
             Cause::DefaultBusStays => Text::from_str(alloc, "The default bus stays."),
             Cause::MoreThanOneInput => Text::from_str(alloc, "More than one input."),
+            Cause::OtherDestination => {
+                Text::from_str(alloc, "Destination is not the archive's bus.")
+            }
+            Cause::EmptyRange => Text::from_str(alloc, "The range is empty."),
+            Cause::NotRunning { name } => not_running_message(alloc, name.as_str()),
             Cause::NoStatement { sid } => no_statement_message(alloc, sid.as_str()),
             Cause::StatementExists { sid } => statement_exists_message(alloc, sid.as_str()),
             Cause::OwnerOnly => Text::from_str(alloc, "Only the owner may call this."),
@@ -168,6 +182,12 @@ fn has_targets_message(alloc: Global, name: &str) -> Result<Text, NoMemory>
     ensures { IfOk result (λ t. t ≡ message_of (Cause.HasTargets name.now)) }
 {
     Ok(Text::from(format!(in alloc; "Rule {name} has targets.")?))
+}
+
+fn not_running_message(alloc: Global, name: &str) -> Result<Text, NoMemory>
+    ensures { IfOk result (λ t. t ≡ message_of (Cause.NotRunning name.now)) }
+{
+    Ok(Text::from(format!(in alloc; "Replay {name} is not running.")?))
 }
 
 fn no_statement_message(alloc: Global, sid: &str) -> Result<Text, NoMemory>

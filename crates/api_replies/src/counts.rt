@@ -1,6 +1,6 @@
-//! The reply to DeliverDue.
+//! The replies to DeliverDue and StepReplays.
 ghost use Rattle.std.specs.Prelude.{◌≡◌, ◌+◌, ◌≤◌, [], ◌++◌, length, codes, decimal, IfOk};
-ghost use Rattle.api_replies.specs.Reply.{counted};
+ghost use Rattle.api_replies.specs.Reply.{counted, stepped};
 ghost use Rattle.api_replies.specs.Written.{reply_text};
 ghost use Rattle.api_replies.specs.Pieces as pieces;
 
@@ -16,7 +16,10 @@ const ROOM: usize = 256;
 /// The number of bytes of its body that are no digits of a count.
 const BODY_REST: usize = 53;
 
-/// Room for the reply to a DeliverDue. It is allocated before the steps are made, so the reply then needs no memory, whatever
+/// The number of bytes of the body of a reply to a StepReplays that are no digits of its count.
+const STEPS_REST: usize = 10;
+
+/// Room for the reply to a DeliverDue or a StepReplays. It is allocated before the steps are made, so the reply then needs no memory, whatever
 /// the counts.
 #[derive(Debug, Drop)]
 pub struct CountsReply {
@@ -61,6 +64,26 @@ impl CountsReply {
     {
         self.put_reply(attempts, delivered, dead_lettered, dropped, close);
         self.bytes.as_slice()
+    }
+
+    /// The bytes of the reply to a StepReplays that made this number of steps. They replace those of an earlier one. `close` is
+    /// true if the connection ends after the reply.
+    pub fn fill_steps(&mut self, steps: u32, close: bool) -> &[u8]
+        ensures { result.now ≡ reply_text (stepped steps) close }
+    {
+        self.put_steps(steps, close);
+        self.bytes.as_slice()
+    }
+
+    fn put_steps(&mut self, steps: u32, close: bool)
+        ensures { self.new ≡ reply_text (stepped steps) close }
+    {
+        let mut digits = Buffer::new();
+        let steps = digits.format(steps);
+        self.put_head(STEPS_REST + steps.len(), close);
+        self.put("{\"Steps\":");
+        self.put(steps);
+        self.put("}");
     }
 
     fn put_reply(

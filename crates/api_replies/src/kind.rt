@@ -8,6 +8,8 @@ pub enum Kind {
     EventBus,
     Rule,
     Target,
+    Archive,
+    Replay,
     Queue,
 }
 
@@ -20,11 +22,13 @@ impl Kind {
             Kind::EventBus => "Event bus",
             Kind::Rule => "Rule",
             Kind::Target => "Target",
+            Kind::Archive => "Archive",
+            Kind::Replay => "Replay",
             Kind::Queue => "Queue",
         }
     }
 
-    /// How many there may be: event buses, rules of a bus, targets of a rule, queues.
+    /// How many there may be: event buses, rules of a bus, targets of a rule, archives, running replays, queues.
     pub fn limit(self) -> u32
         ensures { result ≡ kind_limit self }
     {
@@ -32,6 +36,8 @@ impl Kind {
             Kind::EventBus => 100,
             Kind::Rule => 300,
             Kind::Target => 5,
+            Kind::Archive => 100,
+            Kind::Replay => 10,
             Kind::Queue => 1000,
         }
     }

@@ -1,5 +1,5 @@
 -- A request that a message asks for is within its bounds: `asked_bounded`. First the syntax of names, then numbers, then each operation.
-use Rattle.std.proofs.Common.{◌≡◌, ℕ, ◌≤◌, Bool, true, false, ◌&&◌, inl, inr, List, [], ◌∷◌, length, Option, Some, None, Ok, Err, suc, sym, refl, ap, ◌∙◌, subst, arith}
+use Rattle.std.proofs.Common.{◌≡◌, ℕ, ◌≤◌, Bool, true, false, ◌&&◌, nat_le, inl, inr, List, [], ◌∷◌, length, Option, Some, None, Ok, Err, suc, sym, refl, ap, ◌∙◌, subst, arith}
 use Rattle.std.specs.Prelude.{if◌then◌else◌, codes, All, unwrap_or, option_and_then, IsTrue, IfSome, Result}
 use Rattle.std.specs.List.{list_all}
 use Rattle.std.specs.Option.{option_map}
@@ -13,7 +13,7 @@ use Rattle.json_text.specs.Compact.{IsValue, compact_text}
 use Rattle.json_text.specs.Access.{text_in}
 use Rattle.json_text.specs.Checks.{else_fault}
 use Rattle.json_text.proofs.ValueLemmas.{text_is_value}
-use Rattle.event_shape.specs.Names.{IsBusName, IsShortName, IsQueueName, is_bus_name, is_short_name, default_bus, bus_in, bus_of_entry}
+use Rattle.event_shape.specs.Names.{IsArchiveName, IsBusName, IsShortName, IsQueueName, is_archive_name, is_bus_name, is_short_name, default_bus, bus_in, bus_of_entry}
 use Rattle.event_shape.proofs.NameLemmas.{bus_given}
 use Rattle.event_shape.specs.Entry.{Entry}
 use Rattle.event_shape.specs.Unnumbered.{Unnumbered}
@@ -29,6 +29,7 @@ use Rattle.rule_targets.specs.declared.target.AskedTarget.{AskedTarget}
 use Rattle.rule_targets.specs.Input.{IsValidInput}
 use Rattle.rule_targets.specs.Target.{IsAskedAs, IsValidRead, HasValidReads}
 use Rattle.rule_targets.specs.Checks.{IsTargetArn}
+use Rattle.rule_table.specs.WellFormed.{most_days, IsNoneOrPattern}
 use Rattle.rule_targets.specs.WellFormed.{names_rule, NamesRule, are_few as is_count_few, are_ids_formed}
 use Rattle.router_core.specs.Request.{Action, remove_policy, remove_statement, delete_messages, Request}
 use Rattle.router_core.specs.Bounds.{IsForBus, IsStatementIdIfGiven, IsBounded}
@@ -45,8 +46,9 @@ use Rattle.api_members.specs.Entry.{is_entry, texts_of, entry_with, entries_of}
 use Rattle.api_members.specs.CheckedEntry.{IsChecked, AreChecked}
 use Rattle.api_members.specs.Target.{is_target, input_given, path_given, transformer_given}
 use Rattle.api_members.specs.Count.{count_given}
-use Rattle.api_members.specs.Value.{IsGrantee, is_id, are_few, is_list_of, bus_or_default, IsValid}
+use Rattle.api_members.specs.Value.{GivesBusArn, IsGrantee, is_id, are_few, is_list_of, bus_of_source, bus_or_default, IsValid}
 use Rattle.api_members.specs.Refusal.{value_check, IsSoundMember, AreSound}
+use Rattle.api_members.proofs.ArnLemmas.{source_of}
 use Rattle.api_members.proofs.CheckedLemmas.{checked_len}
 use Rattle.api_members.proofs.CountLemmas.{within_limits}
 use Rattle.api_members.proofs.TextLemmas.{valid_text, pattern_text, event_is_value}
@@ -55,8 +57,9 @@ use Rattle.api_wire.specs.declared.call.operation.Operation.TheVariants.{CreateE
 use Rattle.api_wire.specs.declared.call.operation.Operation.TheVariants.{PutRule, DeleteRule, EnableRule, DisableRule, DescribeRule, ListRules}
 use Rattle.api_wire.specs.declared.call.operation.Operation.TheVariants.{PutTargets, RemoveTargets, ListTargetsByRule, ListRuleNamesByTarget}
 use Rattle.api_wire.specs.declared.call.operation.Operation.TheVariants.{PutPermission, RemovePermission, PutEvents, TestEventPattern}
+use Rattle.api_wire.specs.declared.call.operation.Operation.TheVariants.{CreateArchive, UpdateArchive, DeleteArchive, DescribeArchive, ListArchives}
 use Rattle.api_wire.specs.declared.call.operation.Operation.TheVariants.{CreateQueue, DeleteQueue, PeekMessages, DeleteMessages, DeliverDue, DutyCounts}
-use Rattle.api_wire.specs.Call.{caller_of, asked, permission_asked, bus_named, event_bus, account_in, IsStoredAs, removes_all, AreTargets, action_in, IsPermission}
+use Rattle.api_wire.specs.Call.{caller_of, asked, permission_asked, bus_named, event_bus, account_in, IsStoredAs, removes_all, AreTargets, days_given, creation_in, action_in, IsPermission}
 use Rattle.api_wire.specs.Call.{IsAction, IsAsked}
 
 -- `default` is a bus's name
@@ -83,6 +86,12 @@ bus_name m ms sound = valid_text IsBusName syntax.BusName m (given m ms) (λ t i
 queue_name : (ms : Members) → IsSoundMember (Required member.QueueName syntax.QueueName) ms → IsQueueName (text_of member.QueueName ms)
 queue_name ms sound = valid_text IsQueueName syntax.QueueName member.QueueName (given member.QueueName ms) (λ t is. is) sound
 
+archive_name : (ms : Members) → IsSoundMember (Required member.ArchiveName syntax.ArchiveName) ms → IsArchiveName (text_of member.ArchiveName ms)
+archive_name ms sound = valid_text IsArchiveName syntax.ArchiveName member.ArchiveName (given member.ArchiveName ms) (λ t is. is) sound
+
+pub source_arn : (ms : Members) → IsSoundMember (Required member.EventSourceArn syntax.BusArn) ms → GivesBusArn (text_of member.EventSourceArn ms)
+source_arn ms sound = valid_text GivesBusArn syntax.BusArn member.EventSourceArn (given member.EventSourceArn ms) (λ t is. is) sound
+
 target_arn : (ms : Members) → IsSoundMember (Required member.TargetArn syntax.TargetArn) ms → IsTargetArn (text_of member.TargetArn ms)
 target_arn ms sound = valid_text IsTargetArn syntax.TargetArn member.TargetArn (given member.TargetArn ms) (λ t is. is) sound
 
@@ -94,6 +103,13 @@ id_if_given : (v : Option Tree) → (value_check (else_fault (Unit {0}) (cause.R
 id_if_given None valid = tt
 id_if_given (Some (text t)) valid = valid
 id_if_given (Some other) valid = absurd valid
+
+pub pattern_if_given : (v : Option Tree)
+    → (value_check (else_fault (Unit {0}) (cause.Required member.EventPattern)) syntax.Pattern member.EventPattern v).holds
+    → IsNoneOrPattern (option_and_then text_in v)
+pattern_if_given None valid = tt
+pattern_if_given (Some (text t)) valid = valid
+pattern_if_given (Some other) valid = absurd valid
 
 both : (a b : Bool) → a ≡ true → b ≡ true → (a && b) ≡ true
 both a b p q = ap (λ x. x && b) p ∙ q
@@ -234,6 +250,25 @@ deletion_bounded queue (Some m) named within =
     let low = (within m refl).1 in
     (named, omega (arith, low))
 
+few_days : (n : ℕ) → n ≤ 2147483647 → nat_le n most_days ≡ true
+few_days n within = grind (arith, nat_tests)
+
+-- the days of an archive, 0 if none are given
+days_bounds : (ms : Members) → nat_le (unwrap_or (days_given ms) 0) most_days ≡ true
+days_bounds ms =
+    few_days (unwrap_or (days_given ms) 0) (count_bounds 0 2147483647 0 (given member.RetentionDays ms) (omega arith) (omega arith)).1
+
+creation_bounded : (ms : Members) → AreSound (asked CreateArchive ms) ms
+    → IfSome (option_map (creation_in ms) (bus_of_source (text_of member.EventSourceArn ms))) IsBounded
+creation_bounded ms sound =
+    let name = text_of member.ArchiveName ms in
+    let days = unwrap_or (days_given ms) 0 in
+    let (bus, is) = source_arn ms sound.1.0 in
+    let formed = both (is_archive_name name) (is_bus_name bus && nat_le days most_days) (archive_name ms sound.0)
+    (both (is_bus_name bus) (nat_le days most_days) is.0 (days_bounds ms)) in
+    subst (λ o. IfSome (option_map (creation_in ms) o) IsBounded) (sym (source_of (text_of member.EventSourceArn ms) bus is))
+    (formed, pattern_if_given (given member.EventPattern ms) sound.1.1.0)
+
 -- each operation whose action is a function of its members
 bounded : (operation : Operation) (ms : Members) → AreSound (asked operation ms) ms → IfSome (action_in operation ms) IsBounded
 bounded CreateEventBus ms sound = (bus_name member.Name ms sound.0, tt)
@@ -253,6 +288,14 @@ bounded ListRuleNamesByTarget ms sound = (named_bus member.EventBusName ms, targ
 bounded RemovePermission ms sound =
     removal_bounded (event_bus ms) (text_given member.StatementId ms) (removes_all (given member.RemoveAllPermissions ms))
     (named_bus member.EventBusName ms) (id_if_given (given member.StatementId ms) sound.1.1.0)
+bounded CreateArchive ms sound = creation_bounded ms sound
+bounded UpdateArchive ms sound = (
+  both (is_archive_name (text_of member.ArchiveName ms)) (nat_le (unwrap_or (days_given ms) 0) most_days) (archive_name ms sound.0) (days_bounds ms),
+  pattern_if_given (given member.EventPattern ms) sound.1.0,
+)
+bounded DeleteArchive ms sound = (archive_name ms sound.0, tt)
+bounded DescribeArchive ms sound = archive_name ms sound.0
+bounded ListArchives ms sound = tt
 bounded CreateQueue ms sound = (queue_name ms sound.0, tt)
 bounded DeleteQueue ms sound = (queue_name ms sound.0, tt)
 bounded PeekMessages ms sound =

@@ -14,10 +14,11 @@ use Rattle.api_members.specs.Given.{given, text_given, text_of, values_in}
 use Rattle.api_members.specs.Count.{count_given}
 use Rattle.api_members.specs.Entry.{entries_of}
 use Rattle.api_members.specs.CheckedEntry.{IsChecked, AreChecked}
+use Rattle.api_members.specs.Value.{bus_of_source}
 use Rattle.api_messages.specs.declared.message.Message.{Message}
 use Rattle.api_wire.specs.declared.call.operation.Operation.{Operation}
-use Rattle.api_wire.specs.declared.call.operation.Operation.TheVariants.{PutTargets, RemovePermission, DeleteMessages, PutPermission, PutEvents, TestEventPattern}
-use Rattle.api_wire.specs.Call.{caller_of, event_bus, removes_all, action_in, IsPermission, IsAction, MayCall, IsAsked}
+use Rattle.api_wire.specs.declared.call.operation.Operation.TheVariants.{PutTargets, RemovePermission, DeleteMessages, PutPermission, PutEvents, TestEventPattern, CreateArchive}
+use Rattle.api_wire.specs.Call.{caller_of, event_bus, removes_all, creation_in, action_in, IsPermission, IsAction, MayCall, IsAsked}
 
 own_entry : (reading : ℕ) (caller : List ℕ) (e : Entry) (one : Result Unnumbered EntryFault) → IsChecked reading caller e one → IsEntryOf caller one
 own_entry reading caller e (Ok u) p = p.2.account
@@ -42,6 +43,11 @@ own_found DeleteMessages caller ms = by_count (count_given 0 281474976710655 (gi
     by_count : (o : Option ℕ) → IfSome (option_map (delete_messages (text_of member.QueueName ms)) o) (AreEntriesOf caller)
     by_count None = tt
     by_count (Some through) = tt
+own_found CreateArchive caller ms = by_bus (bus_of_source (text_of member.EventSourceArn ms))
+  where
+    by_bus : (o : Option (List ℕ)) → IfSome (option_map (creation_in ms) o) (AreEntriesOf caller)
+    by_bus None = tt
+    by_bus (Some bus) = tt
 own_found _ caller ms = tt
 
 own_permission : (v : Option Tree) (caller : List ℕ) (ms : Members) (a : Action) → IsPermission v ms a → AreEntriesOf caller a

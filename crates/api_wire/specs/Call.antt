@@ -18,7 +18,8 @@ use Rattle.rule_targets.specs.Target.{IsAskedAs}
 use Rattle.router_core.specs.Request.{Action, Request, create_event_bus, delete_event_bus, describe_event_bus, list_event_buses, put_rule, delete_rule}
 use Rattle.router_core.specs.Request.{put_rule_state, describe_rule, list_rules, put_targets, remove_targets, list_targets_by_rule}
 use Rattle.router_core.specs.Request.{list_rule_names_by_target, put_policy, put_statement, remove_policy, remove_statement, put_events}
-use Rattle.router_core.specs.Request.{test_event_pattern, create_queue, delete_queue, peek_messages, delete_messages, deliver_due, duty_counts}
+use Rattle.router_core.specs.Request.{test_event_pattern, create_archive, update_archive, delete_archive, describe_archive, list_archives}
+use Rattle.router_core.specs.Request.{create_queue, delete_queue, peek_messages, delete_messages, deliver_due, duty_counts}
 use Rattle.api_replies.specs.declared.member.Member.{Member}
 use Rattle.api_replies.specs.declared.member.Member.TheVariants as member
 use Rattle.api_replies.specs.declared.cause.Cause.{Cause}
@@ -32,13 +33,14 @@ use Rattle.api_members.specs.CheckedEntry.{AreChecked, total_size}
 use Rattle.api_members.specs.Event.{IsEventGiven}
 use Rattle.api_members.specs.Count.{count_given}
 use Rattle.api_members.specs.Target.{attempts_given, age_given, dead_letter_given, input_given, path_given, transformer_given}
-use Rattle.api_members.specs.Value.{bus_or_default}
+use Rattle.api_members.specs.Value.{bus_of_source, bus_or_default}
 use Rattle.api_members.specs.Refusal.{AreSound, IsFirstRefusal}
 use Rattle.api_wire.specs.declared.call.operation.Operation.{Operation}
 use Rattle.api_wire.specs.declared.call.operation.Operation.TheVariants.{CreateEventBus, DeleteEventBus, DescribeEventBus, ListEventBuses}
 use Rattle.api_wire.specs.declared.call.operation.Operation.TheVariants.{PutRule, DeleteRule, EnableRule, DisableRule, DescribeRule, ListRules}
 use Rattle.api_wire.specs.declared.call.operation.Operation.TheVariants.{PutTargets, RemoveTargets, ListTargetsByRule, ListRuleNamesByTarget}
 use Rattle.api_wire.specs.declared.call.operation.Operation.TheVariants.{PutPermission, RemovePermission, PutEvents, TestEventPattern}
+use Rattle.api_wire.specs.declared.call.operation.Operation.TheVariants.{CreateArchive, UpdateArchive, DeleteArchive, DescribeArchive, ListArchives}
 use Rattle.api_wire.specs.declared.call.operation.Operation.TheVariants.{CreateQueue, DeleteQueue, PeekMessages, DeleteMessages, DeliverDue, DutyCounts}
 use Rattle.api_messages.specs.declared.message.Message.{Message}
 
@@ -52,6 +54,16 @@ local_operation name =
     if bytes_eq name (codes "RouterLocal.DeleteMessages") then Some DeleteMessages else (
     if bytes_eq name (codes "RouterLocal.DeliverDue") then Some DeliverDue else (
     if bytes_eq name (codes "RouterLocal.DutyCounts") then Some DutyCounts else None)))))
+
+-- The operations on archives.
+-- Shown by: archives.
+abbrev pub archive_operation : List ℕ → Option Operation
+archive_operation name =
+    if bytes_eq name (codes "AWSEvents.CreateArchive") then Some CreateArchive else (
+    if bytes_eq name (codes "AWSEvents.UpdateArchive") then Some UpdateArchive else (
+    if bytes_eq name (codes "AWSEvents.DeleteArchive") then Some DeleteArchive else (
+    if bytes_eq name (codes "AWSEvents.DescribeArchive") then Some DescribeArchive else (
+    if bytes_eq name (codes "AWSEvents.ListArchives") then Some ListArchives else local_operation name))))
 
 -- The operation of an X-Amz-Target, compared exactly: `RouterLocal.CreateQueue` has one, `routerlocal.createqueue` has none.
 -- Shown by: tables api_wire.rows: a_message_has_its_first_refusal.
@@ -74,7 +86,7 @@ named_operation name =
     if bytes_eq name (codes "AWSEvents.PutPermission") then Some PutPermission else (
     if bytes_eq name (codes "AWSEvents.RemovePermission") then Some RemovePermission else (
     if bytes_eq name (codes "AWSEvents.PutEvents") then Some PutEvents else (
-    if bytes_eq name (codes "AWSEvents.TestEventPattern") then Some TestEventPattern else local_operation name)))))))))))))))))
+    if bytes_eq name (codes "AWSEvents.TestEventPattern") then Some TestEventPattern else archive_operation name)))))))))))))))))
 
 -- The operation of an optional X-Amz-Target. A message without the field has none.
 -- Shown by: tables api_wire.rows: a_message_has_its_first_refusal.
@@ -115,6 +127,14 @@ asked RemovePermission ms = Optional member.EventBusName syntax.Bus ∷ Optional
     ∷ Optional member.StatementId syntax.StatementId ∷ []
 asked PutEvents ms = Required member.Entries syntax.Entries ∷ []
 asked TestEventPattern ms = Required member.EventPattern syntax.Pattern ∷ Required member.Event syntax.Event ∷ []
+asked CreateArchive ms = Required member.ArchiveName syntax.ArchiveName ∷ Required member.EventSourceArn syntax.BusArn
+    ∷ Optional member.EventPattern syntax.Pattern ∷ Optional member.RetentionDays (syntax.Count 0 2147483647) ∷ []
+asked UpdateArchive ms = Required member.ArchiveName syntax.ArchiveName ∷ Optional member.EventPattern syntax.Pattern
+    ∷ Optional member.RetentionDays (syntax.Count 0 2147483647) ∷ []
+asked DeleteArchive ms = Required member.ArchiveName syntax.ArchiveName ∷ []
+asked DescribeArchive ms = Required member.ArchiveName syntax.ArchiveName ∷ []
+asked ListArchives ms = Optional member.NamePrefix syntax.AnyText ∷ Optional member.EventSourceArn syntax.AnyText
+    ∷ Optional member.State syntax.ArchiveState ∷ []
 asked CreateQueue ms = Required member.QueueName syntax.QueueName ∷ []
 asked DeleteQueue ms = Required member.QueueName syntax.QueueName ∷ []
 asked PeekMessages ms = Required member.QueueName syntax.QueueName ∷ Optional member.Limit (syntax.Count 1 1000) ∷ []
@@ -185,9 +205,19 @@ abbrev pub removal_in : Members → Action
 removal_in ms =
     if removes_all (given member.RemoveAllPermissions ms) then remove_policy (event_bus ms) else remove_statement (event_bus ms) (text_given member.StatementId ms)
 
+-- The number of days that is given, from 0 to 2,147,483,647.
+-- Shown by: archives.
+abbrev pub days_given : Members → Option ℕ
+days_given ms = count_given 0 2147483647 (given member.RetentionDays ms)
+
+-- A CreateArchive on the bus of this name. Without RetentionDays it keeps events forever.
+-- Shown by: archives; an_archive_keeps_for_a_day.edit.
+abbrev pub creation_in : Members → List ℕ → Action
+creation_in ms bus = create_archive (text_of member.ArchiveName ms) bus (text_given member.EventPattern ms) (unwrap_or (days_given ms) 0)
+
 -- The action that sound members of an operation make, a line for each operation. PutTargets, PutPermission, PutEvents and TestEventPattern
 -- have none here: theirs depend on what a text spells, on the caller or on the reading (`IsAction`). A DeleteMessages has one if its Through is
--- valid.
+-- valid, and a CreateArchive if its EventSourceArn is.
 -- Shown by: tables api_wire.rows: a_request_has_what_the_message_gives, a_call_on_a_queue_has_what_the_message_gives,
 -- a_call_on_a_rule_has_what_the_message_gives, a_removal_has_what_the_message_gives; the_default_budget_is_the_limit.edit.
 abbrev pub action_in : Operation → Members → Option Action
@@ -205,6 +235,12 @@ action_in RemoveTargets ms = Some (remove_targets (event_bus ms) (text_of member
 action_in ListTargetsByRule ms = Some (list_targets_by_rule (event_bus ms) (text_of member.Rule ms))
 action_in ListRuleNamesByTarget ms = Some (list_rule_names_by_target (text_of member.TargetArn ms) (event_bus ms))
 action_in RemovePermission ms = Some (removal_in ms)
+action_in CreateArchive ms = option_map (creation_in ms) (bus_of_source (text_of member.EventSourceArn ms))
+action_in UpdateArchive ms = Some (update_archive (text_of member.ArchiveName ms) (text_given member.EventPattern ms) (days_given ms))
+action_in DeleteArchive ms = Some (delete_archive (text_of member.ArchiveName ms))
+action_in DescribeArchive ms = Some (describe_archive (text_of member.ArchiveName ms))
+action_in ListArchives ms =
+    Some (list_archives (text_given member.NamePrefix ms) (text_given member.EventSourceArn ms) (text_given member.State ms))
 action_in CreateQueue ms = Some (create_queue (text_of member.QueueName ms))
 action_in DeleteQueue ms = Some (delete_queue (text_of member.QueueName ms))
 action_in PeekMessages ms = Some (peek_messages (text_of member.QueueName ms) (unwrap_or (count_given 1 1000 (given member.Limit ms)) 10))

@@ -10,6 +10,7 @@ ghost use Rattle.api_members.specs.Refusal.{AreSound};
 ghost use Rattle.api_wire.specs.Call.{asked, IsAction, IsAsked, caller_of};
 ghost use Rattle.api_wire.specs.CallAnswers.{IsFault};
 
+mod archives;
 mod body;
 mod buses;
 mod events;
@@ -23,6 +24,7 @@ mod targets;
 use api_members::CallFault;
 use api_messages::Message;
 use api_replies::{Cause, Member};
+use archives::{create_archive, delete_archive, describe_archive, list_archives, update_archive};
 use body::read_body;
 use buses::{create_event_bus, delete_event_bus, describe_event_bus, list_event_buses};
 use event_shape::{OWNER, is_account};
@@ -110,6 +112,11 @@ fn read_action(
         Operation::RemovePermission => remove_permission(alloc, members),
         Operation::PutEvents => put_events(alloc, members, caller, reading),
         Operation::TestEventPattern => test_event_pattern(alloc, members),
+        Operation::CreateArchive => create_archive(alloc, members),
+        Operation::UpdateArchive => update_archive(alloc, members),
+        Operation::DeleteArchive => delete_archive(alloc, members),
+        Operation::DescribeArchive => describe_archive(alloc, members),
+        Operation::ListArchives => list_archives(alloc, members),
         Operation::CreateQueue => create_queue(alloc, members),
         Operation::DeleteQueue => delete_queue(alloc, members),
         Operation::PeekMessages => peek_messages(alloc, members),

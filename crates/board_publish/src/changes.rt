@@ -42,7 +42,10 @@ impl Board {
             | Control::TargetsRemoved { .. }
             | Control::PolicyPut { .. }
             | Control::QueueCreated { .. }
-            | Control::QueueDeleted { .. } => self.with_set(alloc, set),
+            | Control::QueueDeleted { .. }
+            | Control::ArchiveCreated { .. }
+            | Control::ArchiveUpdated { .. }
+            | Control::ArchiveDeleted { .. } => self.with_set(alloc, set),
         }
     }
 

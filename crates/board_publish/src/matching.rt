@@ -20,7 +20,10 @@ use event_shape::Event;
 use json_text::{Json, NoMemory};
 use name_rows::{Row, Rows};
 use numeric_keys::Marks;
-use router_core::{Finder, Request, Seen, SeenTargets, push_targets, see_event_with, see_with};
+use router_core::{
+    Finder, Matched, Request, Seen, SeenTargets, archives_keeping, push_targets, see_event_with,
+    see_with,
+};
 use rule_table::RuleSet;
 use std::alloc::Global;
 use std::collections::VecDeque;
@@ -62,9 +65,20 @@ impl Board {
         let _version = self.set.control_count();
         self.matchers.find(bus)
     }
+
+    /// The targets of the rules of the bus that match the event, in the order of the rules; none if there is no such bus.
+    fn targets(&self, alloc: Global, bus: &str, event: &Json) -> Result<SeenTargets, NoMemory>
+        requires { IsValue (tree_of event.now) }
+        ensures { IfOk result (λ targets. AreMatched (rules_of bus.now self.now) (tree_of event.now) targets.items) }
+    {
+        match self.matcher(bus) {
+            Some(matcher) => targets(alloc, &self.set, matcher, bus, event),
+            None => Ok(VecDeque::new(alloc)),
+        }
+    }
 }
 
-/// Tries the rules that the bus's automaton finds.
+/// Tries the rules that the bus's automaton finds, and each archive of the bus.
 impl Finder for Board {
     ghost set_of = { λ set. set };
 
@@ -72,11 +86,10 @@ impl Finder for Board {
         &self.set
     }
 
-    fn matched(&self, alloc: Global, bus: &str, event: &Json) -> Result<SeenTargets, NoMemory> {
-        match self.matcher(bus) {
-            Some(matcher) => targets(alloc, &self.set, matcher, bus, event),
-            None => Ok(VecDeque::new(alloc)),
-        }
+    fn matched(&self, alloc: Global, bus: &str, event: &Json) -> Result<Matched, NoMemory> {
+        let targets = self.targets(alloc, bus, event)?;
+        let archives = archives_keeping(alloc, &self.set, bus, event)?;
+        Ok(Matched { targets, archives })
     }
 }
 

@@ -1,5 +1,5 @@
 -- From the clauses of `Journal::recover` and `Book::opened` to those of `recover_book`: `opened_from`, `starved`, `unopened`.
-use Rattle.std.proofs.Common.{◌≡◌, ℕ, List, [], ◌∷◌, Option, Some, Result, Ok, Err, refl, sym, ap, ◌∙◌, subst, inr}
+use Rattle.std.proofs.Common.{◌≡◌, ℕ, List, [], ◌∷◌, Option, Some, Err, refl, sym, ap, ◌∙◌, subst, inr}
 use Rattle.router_disk.specs.declared.disk_call.DiskCall.{DiskCall}
 use Rattle.router_disk.specs.Disk.{AreAnswers}
 use Rattle.record_file.specs.Kept.{IsOpened}
@@ -13,7 +13,7 @@ use Rattle.duty_journal.specs.declared.journal.Journal.{Journal}
 use Rattle.duty_journal.specs.Journal.{batches_of}
 use Rattle.duty_journal.specs.Recovery.{HasFault, HasOpened, IsStoppedOpening, outcome_of}
 use Rattle.router_history.specs.declared.book.Book.{Book}
-use Rattle.router_history.specs.Book.{turns_of, opening_on}
+use Rattle.router_history.specs.Book.{turns_of, as_opened, opening_on}
 use Rattle.book_recovery.specs.Opened.{HasOpenFault, IsInFile, IsOpenedFrom}
 
 -- what is known of a journal that was just opened
@@ -22,12 +22,12 @@ Opens calls j found = (first : List ℕ) → AreAnswers first (calls j.file.disk
 
 module _ {D : Type 0} (calls : D → List DiskCall) (faults : D → ℕ) where
   pub opened_from : (disk : D) (b : Book D) (j : Journal D) (found : List Batch) → b.home ≡ homes.Journal j
-      → turns_of b.machine ≡ opening_on found (Some (faults j.file.disk)) ∷ [] → batches_of j ≡ found → faults j.file.disk ≡ faults disk
+      → turns_of b.machine ≡ opening_on found (Some (as_opened calls faults j.file.disk)) ∷ [] → batches_of j ≡ found → faults j.file.disk ≡ faults disk
       → Opens calls j found → IsOpenedFrom calls faults disk b
   opened_from disk b j found home turns own count has = record {
     journal = j;
     home = home;
-    turns = turns ∙ ap (λ n. opening_on found (Some n) ∷ []) count ∙ ap (λ (bs : List Batch). opening_on bs (Some (faults disk)) ∷ []) (sym own);
+    turns = turns ∙ ap (λ (bs : List Batch). opening_on bs (Some (as_opened calls faults j.file.disk)) ∷ []) (sym own);
     count = count;
     found = subst (Opens calls j) (sym own) has;
   }

@@ -1,5 +1,5 @@
 -- What opening the router's book finds.
-use Rattle.std.specs.Prelude.{◌≡◌, ℕ, List, [], ◌∷◌, Option, Some, None, Result, Ok, Err, ⊤}
+use Rattle.std.specs.Prelude.{◌≡◌, ℕ, List, [], ◌∷◌, Option, Some, None, Err, ⊤}
 use Rattle.router_disk.specs.declared.disk_call.DiskCall.{DiskCall}
 use Rattle.router_disk.specs.Disk.{AreAnswers}
 use Rattle.record_file.specs.Kept.{IsOpened}
@@ -12,15 +12,15 @@ use Rattle.duty_journal.specs.declared.journal.Journal.{Journal}
 use Rattle.duty_journal.specs.Journal.{batches_of}
 use Rattle.duty_journal.specs.Recovery.{HasFault, HasOpened, IsStoppedOpening, outcome_of}
 use Rattle.router_history.specs.declared.book.Book.{Book}
-use Rattle.router_history.specs.Book.{turns_of, opening, opening_on}
+use Rattle.router_history.specs.Book.{turns_of, as_opened, opening, opening_on}
 
--- The book is that of the journal on this disk. Its one turn has the batches that the file held, and the disk's count of faults, which is as
--- before. `HasOpened` says what the file was, and what a crash since may leave.
+-- The book is that of the journal on this disk. Its one turn has the batches that the file held, and the disk as it is once the journal is open: its
+-- calls, and its count of faults, which is as before. `HasOpened` says what the file was, and what a crash since may leave.
 -- Shown by: session_tests journaled.rt: a_book_is_opened_from_its_journal.
 pub record IsOpenedFrom {D : Type 0} (calls : D → List DiskCall) (faults : D → ℕ) (disk : D) (b : Book D) : Type 0 where
   pub journal : Journal D
   pub home : b.home ≡ homes.Journal journal
-  pub turns : turns_of b.machine ≡ opening_on (batches_of journal) (Some (faults disk)) ∷ []
+  pub turns : turns_of b.machine ≡ opening_on (batches_of journal) (Some (as_opened calls faults journal.file.disk)) ∷ []
   pub count : faults journal.file.disk ≡ faults disk
   pub found : (first : List ℕ) → AreAnswers first (calls journal.file.disk) → HasOpened first (calls journal.file.disk) (batches_of journal)
 

@@ -18,7 +18,8 @@ use Rattle.duty_journal.specs.declared.journal.Journal.{Journal}
 use Rattle.duty_journal.specs.Journal.{batches_of}
 use Rattle.message_streams.specs.declared.farewell.SessionEnd.{SessionEnd}
 use Rattle.router_history.specs.declared.book.Book.{Book}
-use Rattle.router_history.specs.History.{Turn, State, after_all, after_written, begun_with, state_of}
+use Rattle.router_history.specs.History.{OpenedDisk, Turn, State, after_all, after_written, begun_with, state_of}
+use Rattle.router_history.specs.Book.{as_opened}
 use Rattle.router_history.specs.Acts.{World}
 use Rattle.book_recovery.specs.Opened.{HasOpenFault, IsOpenedFrom}
 use Rattle.journal_check.specs.Check.{status_of_fault, status_of_opening}
@@ -72,10 +73,10 @@ matches_around door link status old mid on new door_mid link_mid m door_new link
 -- ---- the disk
 
 -- a history that was opened on a disk leaves one
-pub left_some : {D : Type 0} (calls : D → List DiskCall) (counts : D → ℕ) (turns : List Turn) (n : ℕ) (disk : Option D) → (state_of turns).disk ≡ Some n
+pub left_some : {D : Type 0} (calls : D → List DiskCall) (counts : D → ℕ) (turns : List Turn) (opened : OpenedDisk) (disk : Option D) → (state_of turns).disk ≡ Some opened
     → LeavesHome calls counts turns disk → IsSome disk
-left_some calls counts turns n None is left = absurd (cc)
-left_some calls counts turns n (Some d) is left = refl
+left_some calls counts turns opened None is left = absurd (cc)
+left_some calls counts turns opened (Some d) is left = refl
 
 disk_by : (start : Turn) (Ends : SessionEnd → Bool → Type 0) (now : Option ℕ) (old new : World) → RunsBy start Ends now old new → (state_of new.turns).disk ≡ first_disk (start ∷ [])
 disk_by start Ends None old new runs = disk_first start Ends old new runs
@@ -121,17 +122,18 @@ pub unread_disk : {D : Type 0} (Unbegun : Type 0) (given : List (List ℕ × D))
 unread_disk Unbegun given back n status is none = record { unbegun = none; none_given = refl; none_back = refl; cause = inr (is, refl) }
 
 module _ {D L : Type 0} (calls : D → List DiskCall) (counts : D → ℕ) (answered : L → List Exchange) (link_faults : L → ℕ) (Counts : Status → Type 0) where
-  pub some_disk : (now : Option ℕ) (lent : D) (j : Journal D) (disk : Option D) (old new : Around L) (status : Status)
-      → Sits calls counts answered link_faults Counts (opening_of counts lent j) now old new disk status → IsSome disk
-  some_disk now lent j disk old new status (inl s) =
-      left_some calls counts s.runs.turns (counts lent) disk (disk_by (opening_of counts lent j) (EndsJournaled Counts status) now _ _ s.runs.runs) s.left
-  some_disk now lent j disk old new status (inr s) =
-      left_some calls counts (opening_of counts lent j ∷ []) (counts lent) disk (found_disk (batches_of j) (begun_with (Some (counts lent)) first_tables)) s.left
+  pub some_disk : (now : Option ℕ) (j : Journal D) (disk : Option D) (old new : Around L) (status : Status)
+      → Sits calls counts answered link_faults Counts (opening_of calls counts j) now old new disk status → IsSome disk
+  some_disk now j disk old new status (inl s) =
+      left_some calls counts s.runs.turns (as_opened calls counts j.file.disk) disk (disk_by (opening_of calls counts j) (EndsJournaled Counts status) now _ _ s.runs.runs) s.left
+  some_disk now j disk old new status (inr s) =
+      let opened : OpenedDisk = as_opened calls counts j.file.disk in
+      left_some calls counts (opening_of calls counts j ∷ []) opened disk (found_disk (batches_of j) (begun_with (Some opened) first_tables)) s.left
 
   -- a session had the journal's book, or nothing was begun
   pub has_journal : (now : Option ℕ) (lent returned : D) (disk : Option D) (old new : Around L) (status : Status) (book : Book D)
       (opened : IsOpenedFrom calls counts lent book) → disk ≡ Some returned
-      → Sits calls counts answered link_faults Counts (opening_of counts lent opened.journal) now old new disk status
+      → Sits calls counts answered link_faults Counts (opening_of calls counts opened.journal) now old new disk status
       → HasJournal calls counts answered link_faults Counts now old new status lent returned
   has_journal now lent returned disk old new status book opened is (inl s) = inr (inr (record {
     book = book;
@@ -142,7 +144,7 @@ module _ {D L : Type 0} (calls : D → List DiskCall) (counts : D → ℕ) (answ
   has_journal now lent returned disk old new status book opened is (inr s) = inr (inl (record {
     book = book;
     opened = opened;
-    left = subst (LeavesHome calls counts (opening_of counts lent opened.journal ∷ [])) is s.left;
+    left = subst (LeavesHome calls counts (opening_of calls counts opened.journal ∷ [])) is s.left;
     why = s.why;
     unbegun = s.unbegun;
     counted = s.counted;

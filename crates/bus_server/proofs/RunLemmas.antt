@@ -9,7 +9,7 @@ use Rattle.program_lines.specs.declared.status.Status.{Status}
 use Rattle.program_lines.specs.declared.status.Status.TheVariants as statuses
 use Rattle.message_streams.specs.declared.farewell.SessionEnd.{SessionEnd}
 use Rattle.message_streams.specs.declared.farewell.SessionEnd.TheVariants as ends
-use Rattle.router_history.specs.History.{Ask, opens, asked, claims, records, puts_back, breaks, Turn, State, AreTurnsFrom, begun, state_after, state_of, turns_by}
+use Rattle.router_history.specs.History.{OpenedDisk, Ask, opens, asked, claims, records, puts_back, breaks, Turn, State, AreTurnsFrom, begun, state_after, state_of, turns_by}
 use Rattle.router_history.specs.Book.{opening, IsBook, Rests}
 use Rattle.router_history.specs.Acts.{World, world}
 use Rattle.router_history.specs.Session.{IsSession}
@@ -42,8 +42,8 @@ runs_once start Ends old new end first old_book session book rests unmade ends =
       history = of_one_pass new.turns book rests unmade;
     }
 
--- the count of faults of the disk that the first turn has, if it opens a book with one
-abbrev disk_by : Ask → Option ℕ
+-- the disk that the first turn has, if it opens a book with one
+abbrev disk_by : Ask → Option OpenedDisk
 disk_by (opens start found disk) = disk
 disk_by (asked request) = None
 disk_by (claims c) = None
@@ -51,7 +51,7 @@ disk_by (records a) = None
 disk_by (puts_back c why) = None
 disk_by (breaks bs) = None
 
-abbrev pub first_disk : List Turn → Option ℕ
+abbrev pub first_disk : List Turn → Option OpenedDisk
 first_disk [] = None
 first_disk (turn ∷ turns) = disk_by turn.ask
 

@@ -1,11 +1,10 @@
 -- A program that serves over the book of a journal, or over a new book. Other files cite `serve_whole`, `serve_some`, `serve_has`, `serve_unopened`,
 -- `same_around` and `no_usage_served`.
-use Rattle.std.proofs.Common.{◌≡◌, ◌≢◌, ℕ, ◌⊎◌, inl, inr, Bool, List, [], ◌∷◌, map, Option, Some, None, refl, sym, ap, ◌∙◌, subst}
+use Rattle.std.proofs.Common.{◌≡◌, ℕ, inl, inr, Bool, List, [], ◌∷◌, map, Option, Some, refl, sym, ap, ◌∙◌, subst}
 use Rattle.std.specs.Prelude.{IsSome}
 use Rattle.router_disk.specs.declared.disk_call.DiskCall.{DiskCall}
 use Rattle.router_core.specs.Tables.{first_tables}
 use Rattle.program_lines.specs.declared.status.Status.{Status}
-use Rattle.program_lines.specs.declared.status.Status.TheVariants as statuses
 use Rattle.duty_journal.specs.declared.fault.JournalFault.{JournalFault}
 use Rattle.duty_journal.specs.declared.journal.Journal.{Journal}
 use Rattle.duty_journal.specs.Journal.{batches_of}
@@ -15,13 +14,13 @@ use Rattle.router_history.specs.declared.book.Book.{Book}
 use Rattle.router_history.specs.declared.history.Turn.{Turn}
 use Rattle.router_history.specs.History as history
 use Rattle.router_history.specs.History.{begun_with, state_of}
-use Rattle.router_history.specs.Book.{turn_of, opening, IsBook}
+use Rattle.router_history.specs.Book.{turn_of, as_opened, opening, IsBook}
 use Rattle.router_history.proofs.BookLemmas.{disk_of, whole_of}
 use Rattle.book_recovery.specs.Opened.{HasOpenFault, IsOpenedFrom}
 use Rattle.journal_check.specs.Check.{status_of_fault}
 use Rattle.bus_server.specs.Journal.{LeavesDisk, opening_of}
 use Rattle.bus_server.specs.Seated.{LeavesHome}
-use Rattle.bus_server.specs.Serve.{AroundDoor, AtDoor, around_door, IsOpened, IsServe, IsServeOn, IsUnbroken, Serves}
+use Rattle.bus_server.specs.Serve.{AroundDoor, AtDoor, around_door, IsOpened, IsServe, IsServeOn, IsUnbroken}
 use Rattle.bus_server.specs.ServeJournal.{HasServing}
 use Rattle.bus_server.proofs.RunLemmas.{first_disk}
 use Rattle.bus_server.proofs.JournalLemmas.{found_disk, left_some}
@@ -41,7 +40,7 @@ pub same_written : {D L C : Type 0} (written written_new : List ℕ) (doors : Li
 same_written written written_new doors doors_back links links_back clocks clocks_back door_faults link_faults same =
     λ i. around_door (same i) doors doors_back links links_back clocks clocks_back door_faults link_faults
 
--- the disk's count of faults that the first turn has is that of the state
+-- the disk that the first turn has is that of the state
 disk_opened : (start : history.Turn) (turns later : List history.Turn) → IsBook turns → turns ≡ start ∷ later → (state_of turns).disk ≡ first_disk (start ∷ [])
 disk_opened start turns later book opened = disk_of turns book ∙ sym (ap first_disk book.opened) ∙ ap first_disk opened
 
@@ -100,24 +99,25 @@ module _ {J D L C I O : Type 0} (calls : J → List DiskCall) (faults : J → �
       (λ turns later book opened kept. whole_of turns book (disk_opened opening turns later book opened)) (λ kept. refl) is
 
   -- the book of a journal leaves a disk
-  pub serve_some : (lent : J) (j : Journal J) (disk : Option J) (port workers : ℕ) (connections : Option ℕ) (old new : AroundDoor D L C) (status : Status)
-      → IsServeOn show fits did (opening_of faults lent j) (λ turns. LeavesHome calls faults turns disk) port workers connections old new status → IsSome disk
-  serve_some lent j disk port workers connections old new status (inl s) =
+  pub serve_some : (j : Journal J) (disk : Option J) (port workers : ℕ) (connections : Option ℕ) (old new : AroundDoor D L C) (status : Status)
+      → IsServeOn show fits did (opening_of calls faults j) (λ turns. LeavesHome calls faults turns disk) port workers connections old new status → IsSome disk
+  serve_some j disk port workers connections old new status (inl s) =
       let o = s.opened in
-      left_some calls faults (map turn_of o.turns) (faults lent) disk (disk_opened (opening_of faults lent j) (map turn_of o.turns) o.later o.book o.opened) o.kept
-  serve_some lent j disk port workers connections old new status (inr (s, kept)) =
-      left_some calls faults (opening_of faults lent j ∷ []) (faults lent) disk (found_disk (batches_of j) (begun_with (Some (faults lent)) first_tables)) kept
+      left_some calls faults (map turn_of o.turns) (as_opened calls faults j.file.disk) disk (disk_opened (opening_of calls faults j) (map turn_of o.turns) o.later o.book o.opened) o.kept
+  serve_some j disk port workers connections old new status (inr (s, kept)) =
+      let opened : history.OpenedDisk = as_opened calls faults j.file.disk in
+      left_some calls faults (opening_of calls faults j ∷ []) opened disk (found_disk (batches_of j) (begun_with (Some opened) first_tables)) kept
 
   pub serve_has : (lent returned : J) (disk : Option J) (port workers : ℕ) (connections : Option ℕ) (old new : AroundDoor D L C) (status : Status) (book : Book J)
       (opened : IsOpenedFrom calls faults lent book) → disk ≡ Some returned
-      → IsServeOn show fits did (opening_of faults lent opened.journal) (λ turns. LeavesHome calls faults turns disk) port workers connections old new status
+      → IsServeOn show fits did (opening_of calls faults opened.journal) (λ turns. LeavesHome calls faults turns disk) port workers connections old new status
       → HasServing calls faults show fits did port workers connections old new status lent returned
   serve_has lent returned disk port workers connections old new status book opened same is = inr (record {
     book = book;
     opened = opened;
-    serves = serve_weaker show fits did (opening_of faults lent opened.journal) (λ turns. LeavesHome calls faults turns disk)
+    serves = serve_weaker show fits did (opening_of calls faults opened.journal) (λ turns. LeavesHome calls faults turns disk)
         (λ turns. LeavesDisk calls faults turns returned) port workers connections old new status (λ turns later is_book is_opened kept. subst (LeavesHome calls faults turns) same kept)
-        (λ kept. subst (LeavesHome calls faults (opening_of faults lent opened.journal ∷ [])) same kept) is;
+        (λ kept. subst (LeavesHome calls faults (opening_of calls faults opened.journal ∷ [])) same kept) is;
   })
 
   pub serve_unopened : (lent returned : J) (back : Option J) (fault : JournalFault) (port workers : ℕ) (connections : Option ℕ) (around : AroundDoor D L C) (status : Status)

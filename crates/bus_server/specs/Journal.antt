@@ -1,4 +1,4 @@
--- A run of `once` whose changes are kept in a journal.
+-- A run of `once` whose changes are appended to a journal.
 use Rattle.std.specs.Prelude.{◌≡◌, ℕ, ◌⊎◌, Bool, true, false, List, [], ◌∷◌, ◌++◌, Option, Some}
 use Rattle.router_disk.specs.declared.disk_call.DiskCall.{DiskCall}
 use Rattle.router_disk.specs.Faults.{Rose}
@@ -11,7 +11,7 @@ use Rattle.duty_journal.specs.Journal.{batches_of}
 use Rattle.message_streams.specs.declared.farewell.SessionEnd.{SessionEnd}
 use Rattle.router_history.specs.declared.book.Book.{Book}
 use Rattle.router_history.specs.History.{Turn}
-use Rattle.router_history.specs.Book.{opening_on}
+use Rattle.router_history.specs.Book.{as_opened, opening_on}
 use Rattle.router_history.specs.Home.{IsHeld}
 use Rattle.book_recovery.specs.Opened.{HasOpenFault, IsOpenedFrom}
 use Rattle.journal_check.specs.Check.{status_of_fault}
@@ -45,10 +45,10 @@ disks given back faults = record { given = given; back = back; faults = faults }
 abbrev pub LeavesDisk : {D : Type 0} → (D → List DiskCall) → (D → ℕ) → List Turn → D → Type 0
 LeavesDisk {D} calls faults turns disk = (j : Journal D) × (disk ≡ j.file.disk) × IsHeld calls faults turns j
 
--- The turn that opens the book of a journal: it has the batches that were found, and the count of faults of the disk.
+-- The turn that opens the book of a journal: it has the batches that were found, and the disk's calls and its count of faults.
 -- Shown by: opened_after_the_link.edit.
-abbrev pub opening_of : {D : Type 0} → (D → ℕ) → D → Journal D → Turn
-opening_of faults disk j = opening_on (batches_of j) (Some (faults disk))
+abbrev pub opening_of : {D : Type 0} → (D → List DiskCall) → (D → ℕ) → Journal D → Turn
+opening_of calls faults j = opening_on (batches_of j) (Some (as_opened calls faults j.file.disk))
 
 -- The host gave one disk, at the path, just opened, and took one back, with no fault of its own. `Has` holds of the disk as it was lent, and as
 -- it came back. That the disk that came back is the one that was lent is in no field: a run with any type of disk has no other to give back.
@@ -88,7 +88,7 @@ module _ {D L : Type 0} (calls : D → List DiskCall) (faults : D → ℕ) (answ
   pub record IsOnlyOpened (lent returned : D) (old new : Around L) (status : Status) : Type 0 where
     pub book : Book D
     pub opened : IsOpenedFrom calls faults lent book
-    pub left : LeavesDisk calls faults (opening_of faults lent opened.journal ∷ []) returned
+    pub left : LeavesDisk calls faults (opening_of calls faults opened.journal ∷ []) returned
     pub why : (status ≡ statuses.NoMemory) ⊎ (status ≡ statuses.DoorFault)
     pub unbegun : IsUnbegun old new
     pub counted : Counts status
@@ -99,7 +99,7 @@ module _ {D L : Type 0} (calls : D → List DiskCall) (faults : D → ℕ) (answ
   pub record IsJournaled (now : Option ℕ) (lent returned : D) (old new : Around L) (status : Status) : Type 0 where
     pub book : Book D
     pub opened : IsOpenedFrom calls faults lent book
-    pub runs : RunsLinked answered link_faults (opening_of faults lent opened.journal) (EndsJournaled Counts status) now old new
+    pub runs : RunsLinked answered link_faults (opening_of calls faults opened.journal) (EndsJournaled Counts status) now old new
     pub left : LeavesDisk calls faults runs.turns returned
 
   -- What became of a disk that was just opened: `IsNotOpened`, `IsOnlyOpened` or `IsJournaled`.

@@ -1,4 +1,4 @@
-//! Sessions whose changes are kept in a journal.
+//! Sessions whose changes are appended to a journal.
 ghost use Rattle.std.specs.Prelude.{◌≡◌, ◌≢◌, ◌<◌, ◌≤◌, [], IsSome, Some};
 ghost use Rattle.router_disk.specs.Faults.{Rose};
 ghost use Rattle.program_lines.specs.declared.status.Status.TheVariants as statuses;

@@ -34,7 +34,7 @@ pub(crate) struct Ended<D> {
     pub status: Status,
 }
 
-/// One session over a book and a link of the host. With the path of a journal, the book is that of the journal, and its changes are kept there.
+/// One session over a book and a link of the host. With the path of a journal, the book is that of the journal, and its changes are appended there.
 pub(crate) fn once<Rt: Wait, S: Source, K: Sink, H: Host, C: Clock>(
     rt: &Rt,
     alloc: Global,

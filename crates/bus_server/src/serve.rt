@@ -42,8 +42,8 @@ struct Left<J, D, L, C> {
 }
 
 /// Serves connections to the port with so many workers, each with a link of the host and a clock that is lent, until the host's door gives
-/// no more or gave `connections`, or the book is broken. With the path of a journal, the book is that of the journal, and its changes are kept
-/// there. Memory for the tables and the first line is allocated first; then the host gives the links, and the door. Memory for the workers
+/// no more or gave `connections`, or the book is broken. With the path of a journal, the book is that of the journal, and its changes are
+/// appended there. Memory for the tables and the first line is allocated first; then the host gives the links, and the door. Memory for the workers
 /// is allocated after the first line is written, and for the summary at the end.
 pub(crate) fn serve<Rt: Wait + Threads + Sync, K: Sink, H: Host, C: Clocks>(
     rt: &Rt,

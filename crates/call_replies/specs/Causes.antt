@@ -8,13 +8,13 @@ use Rattle.api_replies.specs.declared.member.Member.TheVariants as member
 use Rattle.api_replies.specs.declared.cause.Cause.{Cause}
 use Rattle.api_replies.specs.declared.cause.Cause.TheVariants as cause
 use Rattle.rule_table.specs.Control.{Control, bus_created, bus_deleted, rule_put, rule_deleted, state_put, targets_put}
-use Rattle.rule_table.specs.Control.{targets_removed, policy_put, queue_created, queue_deleted}
+use Rattle.rule_table.specs.Control.{targets_removed, policy_put, queue_created, queue_deleted, archive_created, archive_updated, archive_deleted}
 use Rattle.rule_table.specs.declared.control.TargetFault.{TargetFault}
 use Rattle.rule_table.specs.declared.control.TargetFault.TheVariants as target_fault
 use Rattle.rule_table.specs.declared.control.ControlFault.{ControlFault}
 use Rattle.rule_table.specs.declared.control.ControlFault.TheVariants as fault
 
--- The name that a change has for a thing of this kind: its bus, its rule or its queue.
+-- The name that a change has for a thing of this kind: its bus, its rule, its queue or its archive.
 -- Shown by: tables call_replies.rows: each_fault_of_a_change_has_its_cause.
 abbrev pub name_in : Control → Kind → List ℕ
 name_in (rule_put bus name pattern enabled) kind.EventBus = bus
@@ -32,6 +32,10 @@ name_in (bus_deleted name) _ = name
 name_in (policy_put bus policy) _ = bus
 name_in (queue_created name) _ = name
 name_in (queue_deleted name) _ = name
+name_in (archive_created name bus pattern days) kind.EventBus = bus
+name_in (archive_created name bus pattern days) _ = name
+name_in (archive_updated name pattern days) _ = name
+name_in (archive_deleted name) _ = name
 
 -- The refusal of a change that has this fault; none if it is out of memory.
 -- Shown by: tables call_replies.rows: each_fault_of_a_change_has_its_cause; table_tests test_call_replies.rt:

@@ -54,18 +54,24 @@ fn name_in(control: &Control, kind: Kind) -> &Text
         | Control::RuleDeleted { bus, name }
         | Control::StatePut { bus, name, .. } => match kind {
             Kind::EventBus => bus,
-            Kind::Rule | Kind::Target | Kind::Queue => name,
+            Kind::Rule | Kind::Target | Kind::Archive | Kind::Replay | Kind::Queue => name,
+        },
+        Control::ArchiveCreated { name, bus, .. } => match kind {
+            Kind::EventBus => bus,
+            Kind::Rule | Kind::Target | Kind::Archive | Kind::Replay | Kind::Queue => name,
         },
         Control::TargetsPut { bus, rule, .. } | Control::TargetsRemoved { bus, rule, .. } =>
             match kind {
                 Kind::EventBus => bus,
-                Kind::Rule | Kind::Target | Kind::Queue => rule,
+                Kind::Rule | Kind::Target | Kind::Archive | Kind::Replay | Kind::Queue => rule,
             },
         Control::PolicyPut { bus, .. } => bus,
         Control::BusCreated { name }
         | Control::BusDeleted { name }
         | Control::QueueCreated { name }
-        | Control::QueueDeleted { name } => name,
+        | Control::QueueDeleted { name }
+        | Control::ArchiveUpdated { name, .. }
+        | Control::ArchiveDeleted { name } => name,
     }
 }
 

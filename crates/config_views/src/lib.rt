@@ -1,12 +1,14 @@
-//! What replies show of the configuration: the six calls that describe and list buses, rules and targets.
+//! What replies show of the configuration: the calls that describe and list buses, rules, targets and archives.
 #![tactic(auto)]
 
+mod archives;
 mod buses;
 mod inputs;
 mod parts;
 mod rules;
 mod targets;
 
+pub use archives::{archive_reply, describe_archive, list_archives};
 pub use buses::{describe_event_bus, list_event_buses};
 pub use rules::{describe_rule, list_rules};
 pub use targets::{list_rule_names_by_target, list_targets_by_rule};

@@ -74,3 +74,17 @@ pub(crate) fn no_rule(alloc: Global, name: &str) -> Result<Reply, NoMemory>
         },
     )
 }
+
+/// The reply that the archive does not exist.
+pub(crate) fn no_archive(alloc: Global, name: &str) -> Result<Reply, NoMemory>
+    ensures { IfOk result (λ r. reply_of r ≡ replies.refused (cause_is.NotFound kind_is.Archive name.now)) }
+{
+    let name = Text::from_str(alloc, name)?;
+    refused_reply(
+        alloc,
+        &Cause::NotFound {
+            kind: Kind::Archive,
+            name,
+        },
+    )
+}

@@ -4,14 +4,14 @@ use Rattle.std.specs.List.{flat_map, AllByRecursion}
 use Rattle.std.proofs.lemmas.Bool.Decides.{nat_tests}
 use Rattle.delivery_duties.specs.declared.duty.NewDuty.{NewDuty}
 use Rattle.rule_table.specs.Control.{Control, bus_created, bus_deleted, rule_put, rule_deleted, state_put, targets_put, targets_removed, policy_put}
-use Rattle.rule_table.specs.Control.{queue_created, queue_deleted}
+use Rattle.rule_table.specs.Control.{queue_created, queue_deleted, archive_created, archive_updated, archive_deleted}
 use Rattle.router_core.specs.Batch.{Entry, control, accepted, attempt, messages_deleted}
 use Rattle.entry_bytes.specs.Fields.{two_bytes}
 use Rattle.entry_bytes.specs.Change.{change_bytes, IsChange}
 use Rattle.entry_bytes.specs.Duty.{IsDuty, IsNamed}
 use Rattle.entry_bytes.specs.Reading.{IsBytes, Takes, IsReadAs, made_at, two_at, items_at}
 use Rattle.entry_bytes.specs.ChangeReading.{change_at}
-use Rattle.entry_bytes.proofs.Formats.{IsBytes-rest, bind_some, some_is, guard_some, cond_is, Takes-then, two_format, eight_format, text_format, pair_format, made_format, after_none_format, list_format, items_take, items_again, row_of, choice_takes, made_again}
+use Rattle.entry_bytes.proofs.Formats.{IsBytes-rest, bind_some, some_is, guard_some, cond_is, Takes-then, two_format, eight_format, text_format, pair_format, made_format, list_format, items_take, items_again, row_of, choice_takes, made_again}
 use Rattle.entry_bytes.proofs.ChangeFormats.{change_format}
 use Rattle.entry_bytes.proofs.DutyFormats.{duty_format, outcome_format}
 use Rattle.duty_journal.specs.Batch.{accepted_bytes, operation_bytes, batch_bytes, IsAccepted, IsOperation}
@@ -22,9 +22,9 @@ abbrev pub IsReadDuty : NewDuty → Type 0
 IsReadDuty d = IsDuty d × IsNamed d
 
 event_format : IsReadAs accepted_bytes event_at (IsAccepted IsReadDuty)
-event_format = made_format event_of (λ e. (e.number, (e.bus, (e.k, (e.time, (e.text, e.duties)))))) (λ p. refl) (λ e. refl)
+event_format = made_format event_of (λ e. (e.number, (e.bus, (e.k, (e.time, (e.text, (e.archives, e.duties))))))) (λ p. refl) (λ e. refl)
     (pair_format eight_format (pair_format text_format (pair_format eight_format (pair_format eight_format (pair_format text_format
-    (after_none_format (list_format duty_format)))))))
+    (pair_format (list_format text_format) (list_format duty_format)))))))
 
 abbrev Spelled : List ℕ → Entry → List ℕ → Type 0
 Spelled bytes x rest = Takes bytes (operation_bytes x) rest × IsOperation IsReadDuty x
@@ -52,7 +52,7 @@ operation_takes : (bytes : List ℕ) (x : Entry) (rest : List ℕ) → IsBytes b
 unfolding operation_at
 operation_takes [] x rest fits e = absurd cc
 operation_takes (b ∷ bytes) x rest fits e =
-    elim (cond_is (leb b 10) (made_at control change_at (b ∷ bytes)) (other_at b bytes) (Some (x, rest)) e) [
+    elim (cond_is (leb b 13) (made_at control change_at (b ∷ bytes)) (other_at b bytes) (Some (x, rest)) e) [
       | inl h ↦ changed_takes (b ∷ bytes) x rest fits h.1
       | inr h ↦ other_takes b bytes x rest (IsBytes-rest b bytes fits) h.1
     ]
@@ -69,6 +69,9 @@ changed_again (targets_removed bus rule ids) rest fits = made_again change_forma
 changed_again (policy_put bus policy) rest fits = made_again change_format control (policy_put bus policy) rest fits
 changed_again (queue_created name) rest fits = made_again change_format control (queue_created name) rest fits
 changed_again (queue_deleted name) rest fits = made_again change_format control (queue_deleted name) rest fits
+changed_again (archive_created name bus pattern days) rest fits = made_again change_format control (archive_created name bus pattern days) rest fits
+changed_again (archive_updated name pattern days) rest fits = made_again change_format control (archive_updated name pattern days) rest fits
+changed_again (archive_deleted name) rest fits = made_again change_format control (archive_deleted name) rest fits
 
 operation_again : (x : Entry) (rest : List ℕ) → IsOperation IsReadDuty x → operation_at (operation_bytes x ++ rest) ≡ Some (x, rest)
 unfolding operation_at other_at

@@ -48,16 +48,16 @@ front_none bytes moment rest fault.NotSpelled e none = none_after bytes moment r
 
 -- ---- from the first bytes to the whole
 
-pub operation_change : (bytes : List ℕ) (kind : ℕ) (rest : List ℕ) → byte_at bytes ≡ Some (kind, rest) → kind ≤ 10 → operation_at bytes ≡ made_at control change_at bytes
+pub operation_change : (bytes : List ℕ) (kind : ℕ) (rest : List ℕ) → byte_at bytes ≡ Some (kind, rest) → kind ≤ 13 → operation_at bytes ≡ made_at control change_at bytes
 unfolding operation_at
 operation_change bytes kind rest e le =
-    let t : leb kind 10 ≡ true = grind (arith, nat_tests) in
+    let t : leb kind 13 ≡ true = grind (arith, nat_tests) in
     rw (e, t) refl
 
-pub operation_other : (bytes : List ℕ) (kind : ℕ) (rest : List ℕ) → byte_at bytes ≡ Some (kind, rest) → 10 < kind → operation_at bytes ≡ other_at kind rest
+pub operation_other : (bytes : List ℕ) (kind : ℕ) (rest : List ℕ) → byte_at bytes ≡ Some (kind, rest) → 13 < kind → operation_at bytes ≡ other_at kind rest
 unfolding operation_at
 operation_other bytes kind rest e lt =
-    let t : leb kind 10 ≡ false = grind (arith, nat_tests) in
+    let t : leb kind 13 ≡ false = grind (arith, nat_tests) in
     rw (e, t) refl
 
 no_operation : (bytes : List ℕ) → byte_at bytes ≡ None → operation_at bytes ≡ None

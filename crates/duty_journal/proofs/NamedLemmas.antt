@@ -9,7 +9,7 @@ use Rattle.input_transform.specs.Names.{after_slash}
 use Rattle.name_rows.specs.Rows.{replacing, without}
 use Rattle.name_rows.proofs.RowLemmas.{All_placed}
 use Rattle.rule_table.specs.Control.{Control, bus_created, bus_deleted, rule_put, rule_deleted, state_put, targets_put, targets_removed, policy_put}
-use Rattle.rule_table.specs.Control.{queue_created, queue_deleted}
+use Rattle.rule_table.specs.Control.{queue_created, queue_deleted, archive_created, archive_updated, archive_deleted}
 use Rattle.rule_table.specs.RuleSet.{Bus, Rule, RuleSet, applied, changed, first_set, keeping_targets, new_rule, put_rule, put_targets, with_rule_changed, without_targets}
 use Rattle.rule_table.specs.WellFormed.{IsWellFormed}
 use Rattle.rule_table.proofs.RowLemmas.{All_without}
@@ -107,6 +107,9 @@ named_kept (policy_put bus policy) set form all =
     changed_all IsNamedBus (λ (b : Bus). b.name) bus (λ b. record b { policy = policy }) set.buses (λ b rules. rules) all
 named_kept (queue_created name) set form all = all
 named_kept (queue_deleted name) set form all = all
+named_kept (archive_created name bus pattern days) set form all = all
+named_kept (archive_updated name pattern days) set form all = all
+named_kept (archive_deleted name) set form all = all
 
 named_entries : (moment : ℕ) (es : List Entry) (t : Tables) → AreAdmitted moment es t → AreNamedByArns t.set → AreNamedByArns (after_entries moment es t).set
 named_entries moment [] t admitted all = all

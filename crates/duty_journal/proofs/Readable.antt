@@ -31,20 +31,22 @@ named_duties (d ∷ ds) read = (read.0.1, named_duties ds read.1)
 join_operation : (x : Entry) → IsOperation IsDuty x → NamesRules x → IsOperation IsReadDuty x
 join_operation (control c) fits named = fits
 join_operation (accepted e) fits named =
-    (fits.0, (fits.1.0, (fits.1.1.0, (fits.1.1.1.0, (fits.1.1.1.1.0, (fits.1.1.1.1.1.0, join_duties e.duties fits.1.1.1.1.1.1 named))))))
+    let (number, (bus, (k, (time, (text, (archives, (few, duties))))))) = fits in
+    (number, (bus, (k, (time, (text, (archives, (few, join_duties e.duties duties named)))))))
 join_operation (attempt duty outcome) fits named = fits
 join_operation (messages_deleted queue through) fits named = fits
 
 fit_operation : (x : Entry) → IsOperation IsReadDuty x → IsOperation IsDuty x
 fit_operation (control c) read = read
 fit_operation (accepted e) read =
-    (read.0, (read.1.0, (read.1.1.0, (read.1.1.1.0, (read.1.1.1.1.0, (read.1.1.1.1.1.0, fit_duties e.duties read.1.1.1.1.1.1))))))
+    let (number, (bus, (k, (time, (text, (archives, (few, duties))))))) = read in
+    (number, (bus, (k, (time, (text, (archives, (few, fit_duties e.duties duties)))))))
 fit_operation (attempt duty outcome) read = read
 fit_operation (messages_deleted queue through) read = read
 
 named_operation : (x : Entry) → IsOperation IsReadDuty x → NamesRules x
 named_operation (control c) read = tt
-named_operation (accepted e) read = named_duties e.duties read.1.1.1.1.1.1
+named_operation (accepted e) read = named_duties e.duties read.1.1.1.1.1.1.1
 named_operation (attempt duty outcome) read = tt
 named_operation (messages_deleted queue through) read = tt
 

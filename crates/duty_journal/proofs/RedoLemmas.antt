@@ -8,7 +8,7 @@ use Rattle.std.proofs.lemmas.List.{drop_more, take_rest}
 use Rattle.std.proofs.lemmas.List.Elements.{All-head, All-tail, All-nil, All-cons}
 use Rattle.key_tree.specs.Entries.{value_at, placed, without}
 use Rattle.rule_table.specs.Control.{Control, bus_created, bus_deleted, rule_put, rule_deleted, state_put, targets_put, targets_removed, policy_put}
-use Rattle.rule_table.specs.Control.{queue_created, queue_deleted}
+use Rattle.rule_table.specs.Control.{queue_created, queue_deleted, archive_created, archive_updated, archive_deleted}
 use Rattle.rule_table.specs.RuleSet.{RuleSet}
 use Rattle.delivery_duties.specs.declared.duty.DutyRow.{DutyRow}
 use Rattle.delivery_duties.specs.declared.duty.NewDuty.{NewDuty}
@@ -29,17 +29,37 @@ use Rattle.duty_journal.specs.Redo.{AreUnclaimed, HasNoClaim, IsNextEvent, AreNe
 
 -- ---- the next events
 
-pub event_up : (t : Tables) (e : Accepted) → IsNextEvent (t.events + 1) t.set.count e → IsEventAdmitted t e
-event_up t e n = record { number = n.number_is; bus = n.bus; known = n.version; time = n.time; text = n.text; few = n.few; short = n.short }
+pub event_up : (t : Tables) (e : Accepted) → IsNextEvent (t.events + 1) t.set e → IsEventAdmitted t e
+event_up t e n = record {
+  number = n.number_is;
+  bus = n.bus;
+  known = n.version;
+  time = n.time;
+  text = n.text;
+  archive_order = n.archive_order;
+  archives = n.archives;
+  few = n.few;
+  short = n.short;
+}
 
 -- the same, by numbers that are those of the tables
-pub event_from : (t : Tables) (e : Accepted) (n k : ℕ) → n ≡ t.events → k ≡ t.set.count → IsNextEvent (n + 1) k e → IsEventAdmitted t e
-event_from t e n k same known next = event_up t e (subst (λ m. IsNextEvent (m + 1) t.set.count e) same (subst (λ m. IsNextEvent (n + 1) m e) known next))
+pub event_from : (t : Tables) (e : Accepted) (n : ℕ) (set : RuleSet) → n ≡ t.events → set ≡ t.set → IsNextEvent (n + 1) set e → IsEventAdmitted t e
+event_from t e n set same own next = event_up t e (subst (λ m. IsNextEvent (m + 1) t.set e) same (subst (λ (s : RuleSet). IsNextEvent (n + 1) s e) own next))
 
-pub event_down : (t : Tables) (e : Accepted) → IsEventAdmitted t e → IsNextEvent (t.events + 1) t.set.count e
-event_down t e n = record { number_is = n.number; bus = n.bus; version = n.known; time = n.time; text = n.text; few = n.few; short = n.short }
+pub event_down : (t : Tables) (e : Accepted) → IsEventAdmitted t e → IsNextEvent (t.events + 1) t.set e
+event_down t e n = record {
+  number_is = n.number;
+  bus = n.bus;
+  version = n.known;
+  time = n.time;
+  text = n.text;
+  archive_order = n.archive_order;
+  archives = n.archives;
+  few = n.few;
+  short = n.short;
+}
 
-pub events_up : (moment : ℕ) (es : List Entry) (t : Tables) → AreNextEvents (t.events + 1) t.set.count es → All IsAnEvent es × AreAdmitted moment es t
+pub events_up : (moment : ℕ) (es : List Entry) (t : Tables) → AreNextEvents (t.events + 1) t.set es → All IsAnEvent es × AreAdmitted moment es t
 events_up moment [] t n = (All-nil IsAnEvent, tt)
 events_up moment (accepted e ∷ es) t n =
     let rest = events_up moment es (after_entry moment (accepted e) t) n.1 in
@@ -48,7 +68,7 @@ events_up moment (control c ∷ es) t n = absurd n
 events_up moment (attempt duty outcome ∷ es) t n = absurd n
 events_up moment (messages_deleted queue through ∷ es) t n = absurd n
 
-pub events_down : (moment : ℕ) (es : List Entry) (t : Tables) → All IsAnEvent es → AreAdmitted moment es t → AreNextEvents (t.events + 1) t.set.count es
+pub events_down : (moment : ℕ) (es : List Entry) (t : Tables) → All IsAnEvent es → AreAdmitted moment es t → AreNextEvents (t.events + 1) t.set es
 events_down moment [] t all a = tt
 events_down moment (accepted e ∷ es) t all a =
     (event_down t e a.0, events_down moment es (after_entry moment (accepted e) t) (All-tail IsAnEvent (accepted e) es all) a.1)
@@ -56,15 +76,15 @@ events_down moment (control c ∷ es) t all a = absurd (All-head IsAnEvent (cont
 events_down moment (attempt duty outcome ∷ es) t all a = absurd (All-head IsAnEvent (attempt duty outcome) es all)
 events_down moment (messages_deleted queue through ∷ es) t all a = absurd (All-head IsAnEvent (messages_deleted queue through) es all)
 
-pub events_from : (moment : ℕ) (es : List Entry) (t : Tables) (n k : ℕ) → n ≡ t.events → k ≡ t.set.count → AreNextEvents (n + 1) k es →
+pub events_from : (moment : ℕ) (es : List Entry) (t : Tables) (n : ℕ) (set : RuleSet) → n ≡ t.events → set ≡ t.set → AreNextEvents (n + 1) set es →
     All IsAnEvent es × AreAdmitted moment es t
-events_from moment es t n k same known next =
-    events_up moment es t (subst (λ m. AreNextEvents (m + 1) t.set.count es) same (subst (λ m. AreNextEvents (n + 1) m es) known next))
+events_from moment es t n set same own next =
+    events_up moment es t (subst (λ m. AreNextEvents (m + 1) t.set es) same (subst (λ (s : RuleSet). AreNextEvents (n + 1) s es) own next))
 
-pub events_to : (moment : ℕ) (es : List Entry) (t : Tables) (n k : ℕ) → n ≡ t.events → k ≡ t.set.count → All IsAnEvent es → AreAdmitted moment es t →
-    AreNextEvents (n + 1) k es
-events_to moment es t n k same known all admitted =
-    subst (λ m. AreNextEvents (n + 1) m es) (sym known) (subst (λ m. AreNextEvents (m + 1) t.set.count es) (sym same) (events_down moment es t all admitted))
+pub events_to : (moment : ℕ) (es : List Entry) (t : Tables) (n : ℕ) (set : RuleSet) → n ≡ t.events → set ≡ t.set → All IsAnEvent es →
+    AreAdmitted moment es t → AreNextEvents (n + 1) set es
+events_to moment es t n set same own all admitted =
+    subst (λ (s : RuleSet). AreNextEvents (n + 1) s es) (sym own) (subst (λ m. AreNextEvents (m + 1) t.set es) (sym same) (events_down moment es t all admitted))
 
 -- the first of several operations, and those after it
 pub first_entry : (entries : List CodeEntry) (first d : CodeEntry) → 1 ≤ length entries → first ≡ get_or entries 0 d →
@@ -80,19 +100,20 @@ no_error (Ok x) e = refl
 no_error (Err x) e = absurd (false≢true (sym e))
 
 -- one event more, with its part
-pub step_ok : (r : Result (Unit {0}) ReplayFault) (number known : ℕ) (es rest : List Entry) (e : Accepted) (old mid new : List Part) (part : Part) →
-    es ≡ accepted e ∷ rest → IsNextEvent number known e → ((set : RuleSet) → IsPartOf set (accepted e) part) → mid ≡ old ++ part ∷ [] →
-    OnOk r (AreNextEvents (number + 1) known rest × ((x : List Part) × (new ≡ mid ++ x) × ((set : RuleSet) → ArePartsOf set rest x))) →
-    OnOk r (AreNextEvents number known es × ((x : List Part) × (new ≡ old ++ x) × ((set : RuleSet) → ArePartsOf set es x)))
-step_ok (Ok done) number known es rest e old mid new part is next fits grown h = (
+pub step_ok : (r : Result (Unit {0}) ReplayFault) (moment number : ℕ) (known : RuleSet) (es rest : List Entry) (e : Accepted) (old mid new : List Part)
+    (part : Part) → es ≡ accepted e ∷ rest → IsNextEvent number known e → ((set : RuleSet) → IsPartOf moment set (accepted e) part) →
+    mid ≡ old ++ part ∷ [] →
+    OnOk r (AreNextEvents (number + 1) known rest × ((x : List Part) × (new ≡ mid ++ x) × ((set : RuleSet) → ArePartsOf moment set rest x))) →
+    OnOk r (AreNextEvents number known es × ((x : List Part) × (new ≡ old ++ x) × ((set : RuleSet) → ArePartsOf moment set es x)))
+step_ok (Ok done) moment number known es rest e old mid new part is next fits grown h = (
   subst (AreNextEvents number known) (sym is) (next, h.0),
   (
     part ∷ h.1.0,
     h.1.1 ∙ ap (λ (m : List Part). m ++ h.1.0) grown ∙ append_assoc old (part ∷ []) h.1.0,
-    λ set. subst (λ (os : List Entry). ArePartsOf set os (part ∷ h.1.0)) (sym is) (fits set, h.1.2 set),
+    λ set. subst (λ (os : List Entry). ArePartsOf moment set os (part ∷ h.1.0)) (sym is) (fits set, h.1.2 set),
   ),
 )
-step_ok (Err fault) number known es rest e old mid new part is next fits grown h = tt
+step_ok (Err fault) moment number known es rest e old mid new part is next fits grown h = tt
 
 -- several operations of one turn are events
 pub several_events : (es : List Entry) → 2 ≤ length es → AreOfOneTurn es → All IsAnEvent es
@@ -158,6 +179,9 @@ free_after (targets_removed bus rule ids) s a = a
 free_after (policy_put bus policy) s a = a
 free_after (queue_created name) s a = a
 free_after (queue_deleted name) s a = a
+free_after (archive_created name bus pattern days) s a = a
+free_after (archive_updated name pattern days) s a = a
+free_after (archive_deleted name) s a = a
 
 free_entry : (moment : ℕ) (e : Entry) (t : Tables) → HasNoClaim t → HasNoClaim (after_entry moment e t)
 free_entry moment (control c) t a = free_after c t.duties a

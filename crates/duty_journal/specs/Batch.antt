@@ -4,18 +4,18 @@ use Rattle.std.specs.List.{flat_map, AllByRecursion}
 use Rattle.rule_table.specs.WellFormed.{IsSpelled}
 use Rattle.delivery_duties.specs.declared.duty.NewDuty.{NewDuty}
 use Rattle.router_core.specs.Batch.{Accepted, Entry, control, accepted, attempt, messages_deleted, Batch}
-use Rattle.entry_bytes.specs.Fields.{two_bytes, four_bytes, eight_bytes, text_bytes, list_bytes, IsText, IsList}
+use Rattle.entry_bytes.specs.Fields.{two_bytes, eight_bytes, text_bytes, list_bytes, IsText, IsList}
 use Rattle.entry_bytes.specs.Change.{change_bytes, IsChange}
 use Rattle.entry_bytes.specs.Duty.{duty_bytes, outcome_bytes, IsDuty, IsNamed, IsOutcome}
 
--- An accepted event: its number, its bus, the configuration version that it was matched on, its time, its text, no archive, its duties.
+-- An accepted event: its number, its bus, the configuration version that it was matched on, its time, its text, the names of its archives, its duties.
 -- Shown by: table_tests test_duty_journal.rt: each_batch_has_its_bytes.
 abbrev pub accepted_bytes : Accepted → List ℕ
 accepted_bytes e =
     eight_bytes e.number ++ (text_bytes e.bus ++ (eight_bytes e.k ++ (eight_bytes e.time
-    ++ (text_bytes e.text ++ (four_bytes 0 ++ list_bytes duty_bytes e.duties)))))
+    ++ (text_bytes e.text ++ (list_bytes text_bytes e.archives ++ list_bytes duty_bytes e.duties)))))
 
--- An operation: its kind, which is from 1 to 10 of a change, and its fields.
+-- An operation: its kind, which is from 1 to 13 of a change, and its fields.
 -- Shown by: table_tests test_duty_journal.rt: each_batch_has_its_bytes.
 abbrev pub operation_bytes : Entry → List ℕ
 operation_bytes (control c) = change_bytes c
@@ -33,7 +33,7 @@ batch_bytes b = eight_bytes b.moment ++ (two_bytes (length b.entries) ++ flat_ma
 -- Shown by: proofs alone.
 abbrev pub IsAccepted : (NewDuty → Type 0) → Accepted → Type 0
 IsAccepted is_duty e =
-    (e.number < 2 ^ 64) × (IsText e.bus × ((e.k < 2 ^ 64) × ((e.time < 2 ^ 64) × (IsText e.text × IsList is_duty e.duties))))
+    (e.number < 2 ^ 64) × (IsText e.bus × ((e.k < 2 ^ 64) × ((e.time < 2 ^ 64) × (IsText e.text × (IsList IsText e.archives × IsList is_duty e.duties)))))
 
 -- Each field of the operation has bytes; of the duties of an event this holds.
 -- Shown by: proofs alone.

@@ -3,15 +3,17 @@ use Rattle.std.specs.Prelude.{ℕ, nat_le, ◌==◌, List, [], ◌∷◌, Option
 use Rattle.delivery_duties.specs.declared.duty.NewDuty.{NewDuty}
 use Rattle.delivery_duties.specs.declared.outcome.Outcome.{Outcome}
 use Rattle.router_core.specs.Batch.{Accepted, Entry, control, accepted, attempt, messages_deleted, Batch}
-use Rattle.entry_bytes.specs.Reading.{◌>>=◌, pair_at, made_at, choice_at, byte_at, two_at, eight_at, text_at, items_at, list_at, after_none_at}
+use Rattle.entry_bytes.specs.Reading.{◌>>=◌, pair_at, made_at, choice_at, byte_at, two_at, eight_at, text_at, items_at, list_at}
 use Rattle.entry_bytes.specs.ChangeReading.{change_at}
 use Rattle.entry_bytes.specs.DutyReading.{duty_at, outcome_at}
 
-abbrev pub event_of : ℕ × (List ℕ × (ℕ × (ℕ × (List ℕ × List NewDuty)))) → Accepted
-event_of p = record { number = p.0; bus = p.1.0; k = p.1.1.0; time = p.1.1.1.0; text = p.1.1.1.1.0; duties = p.1.1.1.1.1 }
+abbrev pub event_of : ℕ × (List ℕ × (ℕ × (ℕ × (List ℕ × (List (List ℕ) × List NewDuty))))) → Accepted
+event_of p =
+    record { number = p.0; bus = p.1.0; k = p.1.1.0; time = p.1.1.1.0; text = p.1.1.1.1.0; archives = p.1.1.1.1.1.0; duties = p.1.1.1.1.1.1 }
 
 abbrev pub event_at : List ℕ → Option (Accepted × List ℕ)
-event_at = made_at event_of (pair_at eight_at (pair_at text_at (pair_at eight_at (pair_at eight_at (pair_at text_at (after_none_at (list_at duty_at)))))))
+event_at = made_at event_of (pair_at eight_at (pair_at text_at (pair_at eight_at (pair_at eight_at (pair_at text_at (pair_at (list_at text_at)
+    (list_at duty_at)))))))
 
 abbrev pub attempt_of : ℕ × Outcome → Entry
 attempt_of p = attempt p.0 p.1
@@ -27,7 +29,7 @@ unfoldable pub other_at : ℕ → List ℕ → Option (Entry × List ℕ)
 other_at k bytes = choice_at other_rows k bytes
 
 unfoldable pub operation_at : List ℕ → Option (Entry × List ℕ)
-operation_at bytes = byte_at bytes >>= λ k. if nat_le k.0 10 then made_at control change_at bytes else other_at k.0 k.1
+operation_at bytes = byte_at bytes >>= λ k. if nat_le k.0 13 then made_at control change_at bytes else other_at k.0 k.1
 
 -- at least one operation, after their number
 unfoldable pub operations_at : List ℕ → Option (List Entry × List ℕ)

@@ -1,8 +1,12 @@
 -- Batches that are applied again: which ones the tables admit, and what applying them needs.
-use Rattle.std.specs.Prelude.{◌≡◌, ℕ, ◌+◌, ◌≤◌, Bool, false, nat_le, List, [], ◌∷◌, length, Some, All}
+use Rattle.std.specs.Prelude.{◌≡◌, ℕ, ◌+◌, ◌≤◌, Bool, true, false, ◌&&◌, nat_le, List, [], ◌∷◌, length, Some, All}
 use Rattle.json_text.specs.Limits.{most_text}
 use Rattle.json_text.specs.Moment.{IsMoment}
 use Rattle.event_shape.specs.Names.{IsBusName}
+use Rattle.std.specs.Cmp.Lexicographic.{slice_cmp}
+use Rattle.std.specs.Ordering.{nat_cmp}
+use Rattle.name_rows.specs.Rows.{AreSorted, by_order}
+use Rattle.rule_table.specs.RuleSet.{RuleSet, has_archive}
 use Rattle.delivery_duties.specs.declared.duty.DutyRow.{DutyRow}
 use Rattle.delivery_duties.specs.declared.duty.NewDuty.{NewDuty}
 use Rattle.delivery_duties.specs.Duties.{Duties, pending_row}
@@ -45,30 +49,42 @@ IsRedoOf t b (Attempt moment duty outcome) = (b ≡ record_of moment duty outcom
 abbrev pub is_short : NewDuty → Bool
 is_short duty = nat_le (length duty.text) most_text
 
--- for private clauses: the next event of this number, if configuration versions up to this one are known
-pub record IsNextEvent (number known : ℕ) (e : Accepted) : Type 0 where
+-- for private clauses: the name is before the first of the others, if there is one
+abbrev pub is_before_first : List ℕ → List (List ℕ) → Bool
+is_before_first name [] = true
+is_before_first name (other ∷ others) = by_order (slice_cmp nat_cmp name other) true false false
+
+-- for private clauses: each name is before the one after it
+abbrev pub are_in_order : List (List ℕ) → Bool
+are_in_order [] = true
+are_in_order (name ∷ names) = is_before_first name names && are_in_order names
+
+-- for private clauses: the next event of this number, if this is the tables' rule set
+pub record IsNextEvent (number : ℕ) (set : RuleSet) (e : Accepted) : Type 0 where
   pub number_is : e.number ≡ number
   pub bus : IsBusName e.bus
-  pub version : e.k ≤ known
+  pub version : e.k ≤ set.count
   pub time : IsMoment e.time
   pub text : IsTextAdmitted e.text
+  pub archive_order : AreSorted (λ name. name) e.archives
+  pub archives : All (λ name. has_archive name set ≡ true) e.archives
   pub few : length e.duties ≤ 1500
   pub short : All (λ (duty : NewDuty). length duty.text ≤ most_text) e.duties
 
 -- for private clauses: the operations are events with numbers from this one on
-abbrev pub AreNextEvents : ℕ → ℕ → List Entry → Type 0
-AreNextEvents number known [] = Unit {0}
-AreNextEvents number known (accepted e ∷ es) = IsNextEvent number known e × AreNextEvents (number + 1) known es
-AreNextEvents number known (control c ∷ es) = ⊥
-AreNextEvents number known (attempt duty outcome ∷ es) = ⊥
-AreNextEvents number known (messages_deleted queue through ∷ es) = ⊥
+abbrev pub AreNextEvents : ℕ → RuleSet → List Entry → Type 0
+AreNextEvents number set [] = Unit {0}
+AreNextEvents number set (accepted e ∷ es) = IsNextEvent number set e × AreNextEvents (number + 1) set es
+AreNextEvents number set (control c ∷ es) = ⊥
+AreNextEvents number set (attempt duty outcome ∷ es) = ⊥
+AreNextEvents number set (messages_deleted queue through ∷ es) = ⊥
 
--- for private clauses: what one operation needs to be applied
-abbrev pub IsNeedOf : Tables → Entry → Need → Type 0
-IsNeedOf t e (needs.OfPart part) = IsPartOf t.set e part
-IsNeedOf t e (needs.OfAttempt duty outcome) = (e ≡ attempt duty outcome) × IsFreeDuty duty t.duties
+-- for private clauses: what one operation of a batch of this moment needs to be applied
+abbrev pub IsNeedOf : Tables → ℕ → Entry → Need → Type 0
+IsNeedOf t moment e (needs.OfPart part) = IsPartOf moment t.set e part
+IsNeedOf t moment e (needs.OfAttempt duty outcome) = (e ≡ attempt duty outcome) × IsFreeDuty duty t.duties
 
--- for private clauses: what the operations of a batch need to be applied
-abbrev pub IsPlanOf : Tables → List Entry → Plan → Type 0
-IsPlanOf t es (Parts parts) = ArePartsOf t.set es parts.items
-IsPlanOf t es (OneAttempt duty outcome) = (es ≡ attempt duty outcome ∷ []) × IsFreeDuty duty t.duties
+-- for private clauses: what the operations of a batch of this moment need to be applied
+abbrev pub IsPlanOf : Tables → ℕ → List Entry → Plan → Type 0
+IsPlanOf t moment es (Parts parts) = ArePartsOf moment t.set es parts.items
+IsPlanOf t moment es (OneAttempt duty outcome) = (es ≡ attempt duty outcome ∷ []) × IsFreeDuty duty t.duties

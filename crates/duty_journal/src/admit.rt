@@ -3,7 +3,7 @@ ghost use Rattle.std.specs.Prelude.{◌≡◌, ◌↔◌, ◌<◌, ◌≤◌, �
 ghost use Rattle.std.specs.List.{list_all};
 ghost use Rattle.json_text.specs.Moment.{IsMoment};
 ghost use Rattle.event_shape.specs.Names.{IsQueueArn};
-ghost use Rattle.rule_table.specs.RuleSet.{RuleSet as Set};
+ghost use Rattle.rule_table.specs.RuleSet.{RuleSet as Set, has_archive};
 ghost use Rattle.rule_table.specs.WellFormed.{IsSpelled};
 ghost use Rattle.rule_table.specs.View.{control_of};
 ghost use Rattle.rule_table.specs.declared.control.ControlFault.TheVariants as control_faults;
@@ -16,7 +16,7 @@ ghost use Rattle.router_core.specs.Admitted.{IsAnEvent, IsAttemptAdmitted, IsDel
 ghost use Rattle.router_core.specs.Ready.{IsPartOf, ArePartsOf};
 ghost use Rattle.router_core.specs.declared.ready.Part.{Part as PartView};
 ghost use Rattle.duty_journal.specs.Batch.{HasValidTexts};
-ghost use Rattle.duty_journal.specs.Redo.{AreNextEvents, HasNoClaim, IsFreeDuty, IsNeedOf, IsNextEvent, is_short};
+ghost use Rattle.duty_journal.specs.Redo.{AreNextEvents, HasNoClaim, IsFreeDuty, IsNeedOf, IsNextEvent, are_in_order, is_before_first, is_short};
 
 use crate::fault::ReplayFault;
 use delivery_duties::{NewDuty, Outcome};
@@ -24,8 +24,9 @@ use event_shape::{is_bus_name, queue_of};
 use event_text::is_numbered_text;
 use json_text::{NoMemory, Text};
 use router_core::{AcceptedEvent, Entry, Part, Tables};
-use rule_table::{Control, ControlFault, is_well_formed};
+use rule_table::{Control, ControlFault, RuleSet, is_well_formed};
 use std::alloc::Global;
+use std::cmp::Ordering;
 use std::collections::VecDeque;
 
 /// The last moment of a time, in seconds since 1970-01-01T00:00:00Z.
@@ -73,18 +74,17 @@ pub(crate) fn admit_one(
     requires unclaimed { HasNoClaim tables.now }
     requires count { tables.now.set.count < 2 ^ 63 }
     requires events { tables.now.events < 2 ^ 63 }
-    ensures ok { IfOk result (λ need. IsEntryAdmitted moment (entry_of entry.now) tables.now × IsNeedOf tables.now (entry_of entry.now) need) }
+    ensures ok { IfOk result (λ need. IsEntryAdmitted moment (entry_of entry.now) tables.now × IsNeedOf tables.now moment (entry_of entry.now) need) }
     ensures refused { result ≡ Err ReplayFault.NotAdmitted → ¬ IsEntryAdmitted moment (entry_of entry.now) tables.now }
 {
     match entry {
-        Entry::Control(control) => match admit_change(alloc, tables, control) {
+        Entry::Control(control) => match admit_change(alloc, tables, moment, control) {
             Ok(part) => Ok(Need::OfPart(part)),
             Err(fault) => Err(fault),
         },
         Entry::Accepted(event) => {
             let number = tables.events() + 1;
-            let known = tables.set().control_count();
-            match admit_event(alloc, number, known, event) {
+            match admit_event(alloc, tables.set(), moment, number, event) {
                 Ok(part) => Ok(Need::OfPart(part)),
                 Err(fault) => Err(fault),
             }
@@ -100,12 +100,17 @@ pub(crate) fn admit_one(
     }
 }
 
-fn admit_change(alloc: Global, tables: &Tables, control: &Control) -> Result<Part, ReplayFault>
+fn admit_change(
+    alloc: Global,
+    tables: &Tables,
+    moment: u64,
+    control: &Control,
+) -> Result<Part, ReplayFault>
     requires valid { IsSpelled (control_of control.now) }
     requires count { tables.now.set.count < 2 ^ 63 }
-    ensures ok { IfOk result (λ part. (moment : ℕ) → IsEntryAdmitted moment (change (control_of control.now)) tables.now
-        × IsPartOf tables.now.set (change (control_of control.now)) part) }
-    ensures refused { result ≡ Err ReplayFault.NotAdmitted → (moment : ℕ) → ¬ IsEntryAdmitted moment (change (control_of control.now)) tables.now }
+    ensures ok { IfOk result (λ part. IsEntryAdmitted moment (change (control_of control.now)) tables.now
+        × IsPartOf moment tables.now.set (change (control_of control.now)) part) }
+    ensures refused { result ≡ Err ReplayFault.NotAdmitted → ¬ IsEntryAdmitted moment (change (control_of control.now)) tables.now }
 {
     match is_well_formed(alloc, control) {
         Ok(yes) => {
@@ -118,7 +123,7 @@ fn admit_change(alloc: Global, tables: &Tables, control: &Control) -> Result<Par
     if !is_unnamed(tables, control) {
         return Err(ReplayFault::NotAdmitted);
     }
-    match Part::of_control(alloc, tables.set(), control) {
+    match Part::of_control(alloc, tables.set(), control, moment) {
         Ok(part) => Ok(part),
         Err(fault) => Err(as_replay_fault(fault)),
     }
@@ -138,7 +143,10 @@ fn is_unnamed(tables: &Tables, control: &Control) -> bool
         | Control::TargetsPut { .. }
         | Control::TargetsRemoved { .. }
         | Control::PolicyPut { .. }
-        | Control::QueueCreated { .. } => true,
+        | Control::QueueCreated { .. }
+        | Control::ArchiveCreated { .. }
+        | Control::ArchiveUpdated { .. }
+        | Control::ArchiveDeleted { .. } => true,
     }
 }
 
@@ -159,21 +167,22 @@ fn as_replay_fault(fault: ControlFault) -> ReplayFault
     }
 }
 
-/// The part of the event, if it is the next one with this number, and configuration versions up to `known` are known.
+/// The part of the event in a batch of this moment, if it is the next one with this number, and this is the tables' rule set.
 fn admit_event(
     alloc: Global,
+    set: &RuleSet,
+    moment: u64,
     number: u64,
-    known: u64,
     event: &AcceptedEvent,
 ) -> Result<Part, ReplayFault>
-    ensures ok { IfOk result (λ part. IsNextEvent number known (accepted_of event.now)
-        × ((set : Set) → IsPartOf set (accepted (accepted_of event.now)) part)) }
-    ensures refused { result ≡ Err ReplayFault.NotAdmitted → ¬ IsNextEvent number known (accepted_of event.now) }
+    ensures ok { IfOk result (λ part. IsNextEvent number set.now (accepted_of event.now)
+        × ((s : Set) → IsPartOf moment s (accepted (accepted_of event.now)) part)) }
+    ensures refused { result ≡ Err ReplayFault.NotAdmitted → ¬ IsNextEvent number set.now (accepted_of event.now) }
 {
     if event.number != number {
         return Err(ReplayFault::NotAdmitted);
     }
-    if event.k > known {
+    if event.k > set.control_count() {
         return Err(ReplayFault::NotAdmitted);
     }
     if event.time > LAST_MOMENT {
@@ -188,6 +197,12 @@ fn admit_event(
     if !are_short(&event.duties) {
         return Err(ReplayFault::NotAdmitted);
     }
+    if !are_in_order(&event.archives) {
+        return Err(ReplayFault::NotAdmitted);
+    }
+    if !have_archives(set, &event.archives) {
+        return Err(ReplayFault::NotAdmitted);
+    }
     match is_event_text(alloc, event.text.as_str()) {
         Ok(yes) => {
             if !yes {
@@ -196,7 +211,7 @@ fn admit_event(
         }
         Err(NoMemory) => return Err(ReplayFault::NoMemory),
     }
-    match Part::of_event(alloc, event) {
+    match Part::of_event(alloc, event, moment) {
         Ok(part) => Ok(part),
         Err(NoMemory) => Err(ReplayFault::NoMemory),
     }
@@ -210,6 +225,45 @@ fn are_short(duties: &[NewDuty]) -> bool
         [duty, rest @ ..] => duty.text.as_str().len() <= MOST_TEXT && are_short(rest),
         [] => true,
     }
+}
+
+/// Whether the names are in byte order, each once.
+fn are_in_order(names: &[Text]) -> bool
+    ensures { result ≡ are_in_order names.now }
+{
+    let mut left = names;
+    while let [name, rest @ ..] = left {
+        if !is_first(name, rest) {
+            return false;
+        }
+        left = rest;
+    }
+    true
+}
+
+/// Whether the name is before the first of the others, if there is one.
+fn is_first(name: &Text, others: &[Text]) -> bool
+    ensures { result ≡ is_before_first name.now others.now }
+{
+    match others {
+        [other, ..] => match name.as_str().cmp(other.as_str()) {
+            Ordering::Less => true,
+            Ordering::Equal | Ordering::Greater => false,
+        },
+        [] => true,
+    }
+}
+
+/// Whether the rule set has an archive of each of the names.
+fn have_archives(set: &RuleSet, names: &[Text]) -> bool
+    ensures { result ≡ list_all (λ name. has_archive name set.now) names.now }
+{
+    for name in names {
+        if set.archive(name.as_str()).is_none() {
+            return false;
+        }
+    }
+    true
 }
 
 /// Whether the text is that of an event with a number and an account.
@@ -273,23 +327,25 @@ fn admit_deletion(tables: &Tables, queue: &Text, through: u64) -> Result<(), Rep
     Ok(())
 }
 
-/// Adds the parts of the events, if they are the next ones with numbers from `number` on.
+/// Adds the parts of the events in a batch of this moment, if they are the next ones with numbers from `number` on, and this is the tables'
+/// rule set.
 pub(crate) fn admit_events(
     alloc: Global,
+    set: &RuleSet,
+    moment: u64,
     number: u64,
-    known: u64,
     entries: &[Entry],
     parts: &mut VecDeque<Part>,
 ) -> Result<(), ReplayFault>
-    ensures ok { OnOk result (AreNextEvents number known (map entry_of entries.now)
-        × ((ps : List PartView) × (parts.new.items ≡ parts.old.items ++ ps) × ((set : Set) → ArePartsOf set (map entry_of entries.now) ps))) }
-    ensures refused { result ≡ Err ReplayFault.NotAdmitted → ¬ AreNextEvents number known (map entry_of entries.now) }
+    ensures ok { OnOk result (AreNextEvents number set.now (map entry_of entries.now)
+        × ((ps : List PartView) × (parts.new.items ≡ parts.old.items ++ ps) × ((s : Set) → ArePartsOf moment s (map entry_of entries.now) ps))) }
+    ensures refused { result ≡ Err ReplayFault.NotAdmitted → ¬ AreNextEvents number set.now (map entry_of entries.now) }
 {
     match entries {
         [] => Ok(()),
         [first, rest @ ..] => match event_in(first) {
             Some(event) => {
-                let part = admit_event(alloc, number, known, event)?;
+                let part = admit_event(alloc, set, moment, number, event)?;
                 if parts.push_back(part).is_err() {
                     return Err(ReplayFault::NoMemory);
                 }
@@ -297,7 +353,7 @@ pub(crate) fn admit_events(
                 if number == LAST_NUMBER {
                     return Err(ReplayFault::NoMemory);
                 }
-                admit_events(alloc, number.saturating_add(1), known, rest, parts)
+                admit_events(alloc, set, moment, number.saturating_add(1), rest, parts)
             }
             None => Err(ReplayFault::NotAdmitted),
         },

@@ -9,7 +9,7 @@ ghost use Rattle.duty_journal.specs.Batch.{HasValidTexts};
 ghost use Rattle.duty_journal.specs.Reading.{event_at, attempt_of, deleted_of, other_at, operation_at};
 
 use entry_bytes::{
-    ReadFault, take_change, take_duties, take_no_items, take_outcome, take_str, take_u8, take_u64,
+    ReadFault, take_change, take_duties, take_outcome, take_str, take_texts, take_u8, take_u64,
 };
 use json_text::Text;
 use router_core::{AcceptedEvent, Entry};
@@ -17,7 +17,7 @@ use shared_text::SharedText;
 use std::alloc::Global;
 
 /// The greatest kind of a change.
-const LAST_CHANGE: u8 = 10;
+const LAST_CHANGE: u8 = 13;
 
 /// The operation at the front, and the bytes after it. Refused if it is a change whose pattern, policy or input is not valid.
 pub(crate) fn take_operation(alloc: Global, bytes: &[u8]) -> Result<(Entry, &[u8]), ReadFault>
@@ -69,7 +69,7 @@ fn take_event(alloc: Global, bytes: &[u8]) -> Result<(AcceptedEvent, &[u8]), Rea
     let (k, rest) = take_u64(rest)?;
     let (time, rest) = take_u64(rest)?;
     let (text, rest) = take_str(rest)?;
-    let rest = take_no_items(rest)?;
+    let (archives, rest) = take_texts(alloc, rest)?;
     let text = SharedText::new(alloc, Text::from_str(alloc, text)?)?;
     let (duties, rest) = take_duties(alloc, &text, rest)?;
     let bus = Text::from_str(alloc, bus)?;
@@ -79,6 +79,7 @@ fn take_event(alloc: Global, bytes: &[u8]) -> Result<(AcceptedEvent, &[u8]), Rea
         k,
         time,
         text,
+        archives,
         duties,
     };
     Ok((event, rest))

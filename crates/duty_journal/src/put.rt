@@ -7,7 +7,7 @@ ghost use Rattle.router_core.specs.View.{accepted_of, entry_of, batch_of};
 ghost use Rattle.duty_journal.specs.Batch.{accepted_bytes, operation_bytes, batch_bytes, IsAccepted, IsOperation, FitsBytes};
 
 use entry_bytes::{
-    put_change, put_duties, put_no_items, put_outcome, put_text, put_u8, put_u16, put_u64,
+    put_change, put_duties, put_outcome, put_text, put_texts, put_u8, put_u16, put_u64,
 };
 use json_text::{Bytes, NoMemory};
 use router_core::{AcceptedEvent, Batch, Entry};
@@ -95,11 +95,11 @@ fn put_accepted(event: &AcceptedEvent, out: &mut Bytes) -> Result<(), NoMemory>
 {
     put_place(event, out)?;
     put_text(event.text.as_str(), out)?;
-    put_no_items(out)?;
+    put_texts(&event.archives, out)?;
     put_duties(&event.duties, out)
 }
 
-/// The event without its text and its duties.
+/// The event without its text, its archives and its duties.
 fn put_place(event: &AcceptedEvent, out: &mut Bytes) -> Result<(), NoMemory>
     ensures bytes { OnOk result (out.new ≡ out.old ++ (eight_bytes event.now.number ++ (text_bytes event.now.bus
         ++ (eight_bytes event.now.k ++ eight_bytes event.now.time)))) }

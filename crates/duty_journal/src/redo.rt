@@ -78,7 +78,7 @@ fn planned(
     requires count { tables.now.set.count < 2 ^ 63 }
     requires events { tables.now.events < 2 ^ 63 }
     ensures ok { IfOk result (λ p. AreOfOneTurn (map entry_of entries.now) × AreAdmitted moment (map entry_of entries.now) tables.now
-        × IsPlanOf tables.now (map entry_of entries.now) p) }
+        × IsPlanOf tables.now moment (map entry_of entries.now) p) }
     ensures refused { result ≡ Err ReplayFault.NotAdmitted →
         ¬ (AreOfOneTurn (map entry_of entries.now) × AreAdmitted moment (map entry_of entries.now) tables.now) }
 {
@@ -91,7 +91,7 @@ fn planned(
             Err(fault) => Err(fault),
         },
         [] => Err(ReplayFault::NotAdmitted),
-        [_, _, ..] => plan_events(alloc, tables, entries),
+        [_, _, ..] => plan_events(alloc, tables, moment, entries),
     }
 }
 
@@ -107,12 +107,17 @@ fn one_part(alloc: Global, part: Part) -> Result<Plan, ReplayFault>
 }
 
 /// What several operations need, which have to be events.
-fn plan_events(alloc: Global, tables: &Tables, entries: &[Entry]) -> Result<Plan, ReplayFault>
+fn plan_events(
+    alloc: Global,
+    tables: &Tables,
+    moment: u64,
+    entries: &[Entry],
+) -> Result<Plan, ReplayFault>
     requires several { 2 ≤ length entries.now }
     requires events { tables.now.events < 2 ^ 63 }
-    ensures ok { IfOk result (λ p. (moment : ℕ) → AreOfOneTurn (map entry_of entries.now) × AreAdmitted moment (map entry_of entries.now) tables.now
-        × IsPlanOf tables.now (map entry_of entries.now) p) }
-    ensures refused { result ≡ Err ReplayFault.NotAdmitted → (moment : ℕ) →
+    ensures ok { IfOk result (λ p. AreOfOneTurn (map entry_of entries.now) × AreAdmitted moment (map entry_of entries.now) tables.now
+        × IsPlanOf tables.now moment (map entry_of entries.now) p) }
+    ensures refused { result ≡ Err ReplayFault.NotAdmitted →
         ¬ (AreOfOneTurn (map entry_of entries.now) × AreAdmitted moment (map entry_of entries.now) tables.now) }
 {
     if entries.len() > 10 {
@@ -120,8 +125,7 @@ fn plan_events(alloc: Global, tables: &Tables, entries: &[Entry]) -> Result<Plan
     }
     let mut parts = VecDeque::new(alloc);
     let number = tables.events() + 1;
-    let known = tables.set().control_count();
-    match admit_events(alloc, number, known, entries, &mut parts) {
+    match admit_events(alloc, tables.set(), moment, number, entries, &mut parts) {
         Ok(()) => Ok(Plan::Parts(parts)),
         Err(fault) => Err(fault),
     }

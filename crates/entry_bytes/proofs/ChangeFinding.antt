@@ -75,6 +75,7 @@ pub names_missing : (bytes : List ℕ) (why : ReadFault) → Blames (pair_at tex
 names_missing bytes fault.NoMemory e = tt
 names_missing bytes fault.NotSpelled e = by_names bytes ∙ rw e refl
 
-pub kind_else : (k : ℕ) (bytes : List ℕ) → eqb k 3 ≡ false → eqb k 6 ≡ false → eqb k 8 ≡ false → kind_at k bytes ≡ plain_at k bytes
+pub kind_else : (k : ℕ) (bytes : List ℕ) → eqb k 3 ≡ false → eqb k 6 ≡ false → eqb k 8 ≡ false → eqb k 11 ≡ false → eqb k 12 ≡ false
+    → kind_at k bytes ≡ plain_at k bytes
 unfolding kind_at plain_at
-kind_else k bytes three six eight = rw (three, six, eight) refl
+kind_else k bytes three six eight eleven twelve = rw (three, six, eight, eleven, twelve) refl

@@ -11,7 +11,7 @@ use Rattle.std.proofs.lemmas.List.{take_at, drop_at, take-append-drop, length-ap
 use Rattle.std.proofs.lemmas.List.Concat.{flat_map-cons}
 use Rattle.std.proofs.lemmas.Nat.{be_bytes_2, be_bytes_4, be_bytes_8, from_be_bytes-to_be_bytes_2, from_be_bytes-to_be_bytes_4, from_be_bytes-to_be_bytes_8}
 use Rattle.entry_bytes.specs.Fields.{two_bytes, four_bytes, eight_bytes, text_bytes, flag_bytes, optional_bytes, list_bytes, IsText, IsOptional, IsList}
-use Rattle.entry_bytes.specs.Reading.{IsBytes, Takes, IsReadAs, ◌>>=◌, pair_at, made_at, nothing_at, choice_at, two_at, four_at, eight_at, text_at, flag_at, optional_at, items_at, list_at, no_items_at, after_none_at}
+use Rattle.entry_bytes.specs.Reading.{IsBytes, Takes, IsReadAs, ◌>>=◌, pair_at, made_at, nothing_at, choice_at, two_at, four_at, eight_at, text_at, flag_at, optional_at, items_at, list_at}
 
 IsBytes-drop : (n : ℕ) (bytes : List ℕ) → IsBytes bytes → IsBytes (drop n bytes)
 IsBytes-drop n bytes h i = rw get_or-drop (h (n + i))
@@ -58,12 +58,6 @@ Takes-then a x b y c p q = record { parts = p.parts ∙ ap (λ (t : List ℕ). x
 
 pub Takes-after : (k : ℕ) (a x b : List ℕ) → Takes a x b → Takes (k ∷ a) (k ∷ x) b
 Takes-after k a x b p = record { parts = ap (λ (t : List ℕ). k ∷ t) p.parts; rest_fits = p.rest_fits }
-
-abbrev counted : ℕ → List ℕ → ℕ × List ℕ
-counted n bytes = (n, bytes)
-
-pair_is : (x y : ℕ) (v w : List ℕ) → x ≡ y → v ≡ w → counted x v ≡ counted y w
-pair_is x y v w p q = ap (λ n. counted n v) p ∙ ap (counted y) q
 
 -- ---- UTF-8
 
@@ -326,20 +320,4 @@ list_format {A = A} {s = s} {a = a} {f = f} one = record {
       (subst (λ (k : ℕ). Takes bytes (four_bytes k ++ flat_map s xs) rest) (sym second.1) both, (omega (arith, second.1, first.1), second.2));
   again = λ xs rest fits. ap (list_at a) (append_assoc (four_bytes (length xs)) (flat_map s xs) rest)
       ∙ rw (four_format.again (length xs) (flat_map s xs ++ rest) fits.0) (items_again one xs rest fits.1);
-}
-
-pub after_none_format : {A : Type 0} {s : A → List ℕ} {a : List ℕ → Option (A × List ℕ)} {f : A → Type 0} → IsReadAs s a f
-    → IsReadAs (λ x. four_bytes 0 ++ s x) (after_none_at a) f
-after_none_format {A = A} {s = s} {a = a} {f = f} one = record {
-  takes = λ bytes x rest fits e.
-      let r = bind_some (no_items_at bytes) a (x, rest) e in
-      let n = bind_some (four_at bytes) (λ (n : ℕ × List ℕ). cond (eqb n.0 0) (Some n.1) None) r.0 r.1 in
-      let g = allowed_some (eqb n.0.0 0) (Some n.0.1) r.0 n.2 in
-      let none : n.0.0 ≡ 0 = eqb-true n.0.0 0 g.0 in
-      let count = four_format.takes bytes n.0.0 n.0.1 fits n.1 in
-      let first : Takes bytes (four_bytes 0) r.0 = subst (λ (q : ℕ × List ℕ). Takes bytes (four_bytes q.0) q.1) (pair_is n.0.0 0 n.0.1 r.0 none (some_is n.0.1 r.0 g.1)) count.0 in
-      let second = one.takes r.0 x rest first.rest_fits r.2 in
-      (Takes-then bytes (four_bytes 0) r.0 (s x) rest first second.0, second.1);
-  again = λ x rest fits. ap (after_none_at a) (append_assoc (four_bytes 0) (s x) rest)
-      ∙ rw (four_format.again 0 (s x ++ rest) (omega arith)) (one.again x rest fits);
 }

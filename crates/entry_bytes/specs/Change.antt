@@ -5,7 +5,7 @@ use Rattle.rule_targets.specs.declared.given.GivenInput.TheVariants.{Input, Inpu
 use Rattle.rule_targets.specs.declared.target.RetryPolicy.{RetryPolicy}
 use Rattle.rule_targets.specs.declared.target.Target.{Target}
 use Rattle.rule_table.specs.Control.{Control, bus_created, bus_deleted, rule_put, rule_deleted, state_put, targets_put, targets_removed, policy_put}
-use Rattle.rule_table.specs.Control.{queue_created, queue_deleted}
+use Rattle.rule_table.specs.Control.{queue_created, queue_deleted, archive_created, archive_updated, archive_deleted}
 use Rattle.entry_bytes.specs.Fields.{two_bytes, four_bytes, text_bytes, flag_bytes, optional_bytes, list_bytes, IsText, IsOptional, IsList}
 
 -- An entry of an InputPathsMap: its key, and the text of its path.
@@ -32,7 +32,7 @@ abbrev pub target_bytes : Target → List ℕ
 target_bytes t =
     text_bytes t.id ++ (text_bytes t.arn ++ (input_bytes t.input ++ (optional_bytes retry_bytes t.retry ++ optional_bytes text_bytes t.dead_letter)))
 
--- A change: its kind, from 1 to 10, and its fields.
+-- A change: its kind, from 1 to 13, and its fields.
 -- Shown by: table_tests test_duty_journal.rt: each_batch_has_its_bytes; a_deletion_has_the_kind_of_a_creation.edit.
 abbrev pub change_bytes : Control → List ℕ
 change_bytes (bus_created name) = 1 ∷ text_bytes name
@@ -45,6 +45,10 @@ change_bytes (targets_removed bus rule ids) = 7 ∷ (text_bytes bus ++ (text_byt
 change_bytes (policy_put bus policy) = 8 ∷ (text_bytes bus ++ optional_bytes text_bytes policy)
 change_bytes (queue_created name) = 9 ∷ text_bytes name
 change_bytes (queue_deleted name) = 10 ∷ text_bytes name
+change_bytes (archive_created name bus pattern days) =
+    11 ∷ (text_bytes name ++ (text_bytes bus ++ (optional_bytes text_bytes pattern ++ four_bytes days)))
+change_bytes (archive_updated name pattern days) = 12 ∷ (text_bytes name ++ (optional_bytes text_bytes pattern ++ four_bytes days))
+change_bytes (archive_deleted name) = 13 ∷ text_bytes name
 
 -- both texts have bytes
 abbrev pub IsPath : List ℕ × List ℕ → Type 0
@@ -80,3 +84,6 @@ IsChange (targets_removed bus rule ids) = IsText bus × (IsText rule × IsList I
 IsChange (policy_put bus policy) = IsText bus × IsOptional IsText policy
 IsChange (queue_created name) = IsText name
 IsChange (queue_deleted name) = IsText name
+IsChange (archive_created name bus pattern days) = IsText name × (IsText bus × (IsOptional IsText pattern × (days < 2 ^ 32)))
+IsChange (archive_updated name pattern days) = IsText name × (IsOptional IsText pattern × (days < 2 ^ 32))
+IsChange (archive_deleted name) = IsText name

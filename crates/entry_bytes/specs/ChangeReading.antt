@@ -6,7 +6,7 @@ use Rattle.rule_targets.specs.declared.given.GivenInput.TheVariants.{Input, Inpu
 use Rattle.rule_targets.specs.declared.target.RetryPolicy.{RetryPolicy}
 use Rattle.rule_targets.specs.declared.target.Target.{Target}
 use Rattle.rule_table.specs.Control.{Control, bus_created, bus_deleted, rule_put, rule_deleted, state_put, targets_put, targets_removed, policy_put}
-use Rattle.rule_table.specs.Control.{queue_created, queue_deleted}
+use Rattle.rule_table.specs.Control.{queue_created, queue_deleted, archive_created, archive_updated, archive_deleted}
 use Rattle.entry_bytes.specs.Reading.{◌>>=◌, pair_at, made_at, nothing_at, choice_at, byte_at, two_at, four_at, text_at, flag_at, optional_at, list_at}
 
 abbrev pub path_at : List ℕ → Option ((List ℕ × List ℕ) × List ℕ)
@@ -72,6 +72,18 @@ policy_put_of p = policy_put p.0 p.1
 unfoldable pub policy_put_at : List ℕ → Option (Control × List ℕ)
 policy_put_at = made_at policy_put_of (pair_at text_at (optional_at text_at))
 
+abbrev pub archive_created_of : List ℕ × (List ℕ × (Option (List ℕ) × ℕ)) → Control
+archive_created_of p = archive_created p.0 p.1.0 p.1.1.0 p.1.1.1
+
+unfoldable pub archive_created_at : List ℕ → Option (Control × List ℕ)
+archive_created_at = made_at archive_created_of (pair_at text_at (pair_at text_at (pair_at (optional_at text_at) four_at)))
+
+abbrev pub archive_updated_of : List ℕ × (Option (List ℕ) × ℕ) → Control
+archive_updated_of p = archive_updated p.0 p.1.0 p.1.1
+
+unfoldable pub archive_updated_at : List ℕ → Option (Control × List ℕ)
+archive_updated_at = made_at archive_updated_of (pair_at text_at (pair_at (optional_at text_at) four_at))
+
 -- the changes whose texts are of any kind
 abbrev pub plain_rows : List (ℕ × (List ℕ → Option (Control × List ℕ)))
 plain_rows =
@@ -82,16 +94,18 @@ plain_rows =
     ∷ (7, made_at targets_removed_of (pair_at text_at (pair_at text_at (list_at text_at))))
     ∷ (9, made_at queue_created text_at)
     ∷ (10, made_at queue_deleted text_at)
+    ∷ (13, made_at archive_deleted text_at)
     ∷ []
 
 unfoldable pub plain_at : ℕ → List ℕ → Option (Control × List ℕ)
 plain_at k bytes = choice_at plain_rows k bytes
 
--- the change of this kind, whose texts have to be valid for three kinds
+-- the change of this kind, whose texts have to be valid for five kinds
 unfoldable pub kind_at : ℕ → List ℕ → Option (Control × List ℕ)
-kind_at k bytes = choice_at ((3, rule_put_at) ∷ (6, targets_put_at) ∷ (8, policy_put_at) ∷ plain_rows) k bytes
+kind_at k bytes =
+    choice_at ((3, rule_put_at) ∷ (6, targets_put_at) ∷ (8, policy_put_at) ∷ (11, archive_created_at) ∷ (12, archive_updated_at) ∷ plain_rows) k bytes
 
 -- The change at the front: its kind, and what the kind has.
--- Shown by: law a_change_is_read_as_it_is_spelled; a_queue_is_created_by_kind_11.edit.
+-- Shown by: law a_change_is_read_as_it_is_spelled; a_queue_is_created_by_kind_20.edit.
 unfoldable pub change_at : List ℕ → Option (Control × List ℕ)
 change_at bytes = byte_at bytes >>= λ k. kind_at k.0 k.1

@@ -114,12 +114,3 @@ pub record Takes (bytes text rest : List ℕ) : Type 0 where
 pub record IsReadAs {A : Type 0} (bytes_of : A → List ℕ) (at : List ℕ → Option (A × List ℕ)) (fits : A → Type 0) : Type 0 where
   pub takes : (bytes : List ℕ) (x : A) (rest : List ℕ) → IsBytes bytes → at bytes ≡ Some (x, rest) → Takes bytes (bytes_of x) rest × fits x
   pub again : (x : A) (rest : List ℕ) → fits x → at (bytes_of x ++ rest) ≡ Some (x, rest)
-
--- The bytes after an empty list.
--- Shown by: table_tests test_duty_journal.rt: other_bytes_are_no_batch.
-abbrev pub no_items_at : List ℕ → Option (List ℕ)
-no_items_at bytes = four_at bytes >>= λ n. if n.0 == 0 then Some n.1 else None
-
--- what follows an empty list
-abbrev pub after_none_at : {A : Type 0} → (List ℕ → Option (A × List ℕ)) → List ℕ → Option (A × List ℕ)
-after_none_at a bytes = no_items_at bytes >>= λ rest. a rest

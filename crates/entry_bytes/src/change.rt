@@ -11,6 +11,7 @@ ghost use Rattle.entry_bytes.specs.Reading.{Gives, Finds, Blames, made_at, pair_
 ghost use Rattle.entry_bytes.specs.TargetReading.{rule_of};
 ghost use Rattle.entry_bytes.specs.ChangeReading.{rule_put_at, rule_deleted_of, state_put_of, targets_put_at, targets_removed_of, policy_put_at, plain_at, kind_at, change_at};
 
+use crate::archive::{put_archive, put_update, take_archive_created, take_archive_updated};
 use crate::fault::ReadFault;
 use crate::lists::{put_list, take_list};
 use crate::numbers::{put_u8, take_u8};
@@ -53,10 +54,22 @@ pub fn put_change(control: &Control, out: &mut Bytes) -> Result<(), NoMemory>
         Control::PolicyPut { bus, policy } => put_policy(bus, policy, out),
         Control::QueueCreated { name } => put_name(9, name, out),
         Control::QueueDeleted { name } => put_name(10, name, out),
+        Control::ArchiveCreated {
+            name,
+            bus,
+            pattern,
+            days,
+        } => put_archive(name, bus, pattern, *days, out),
+        Control::ArchiveUpdated {
+            name,
+            pattern,
+            days,
+        } => put_update(name, pattern, *days, out),
+        Control::ArchiveDeleted { name } => put_name(13, name, out),
     }
 }
 
-fn put_name(kind: u8, name: &Text, out: &mut Bytes) -> Result<(), NoMemory>
+pub(crate) fn put_name(kind: u8, name: &Text, out: &mut Bytes) -> Result<(), NoMemory>
     ensures bytes { OnOk result (out.new ≡ out.old ++ (kind ∷ text_bytes name.now)) }
     ensures fits { OnOk result (IsText name.now) }
     ensures err { OnErr result (take (length out.old) out.new ≡ out.old) }
@@ -65,7 +78,7 @@ fn put_name(kind: u8, name: &Text, out: &mut Bytes) -> Result<(), NoMemory>
     put_text(name.as_str(), out)
 }
 
-fn put_names(kind: u8, bus: &Text, name: &Text, out: &mut Bytes) -> Result<(), NoMemory>
+pub(crate) fn put_names(kind: u8, bus: &Text, name: &Text, out: &mut Bytes) -> Result<(), NoMemory>
     ensures bytes { OnOk result (out.new ≡ out.old ++ (kind ∷ (text_bytes bus.now ++ text_bytes name.now))) }
     ensures fits { OnOk result (IsText bus.now × IsText name.now) }
     ensures err { OnErr result (take (length out.old) out.new ≡ out.old) }
@@ -136,6 +149,8 @@ fn take_kind(alloc: Global, kind: u8, bytes: &[u8]) -> Result<(Control, &[u8]), 
         3 => take_rule_put(alloc, bytes),
         6 => take_targets_put(alloc, bytes),
         8 => take_policy_put(alloc, bytes),
+        11 => take_archive_created(alloc, bytes),
+        12 => take_archive_updated(alloc, bytes),
         _ => take_plain(alloc, kind, bytes),
     }
 }
@@ -165,6 +180,10 @@ fn take_plain(alloc: Global, kind: u8, bytes: &[u8]) -> Result<(Control, &[u8]),
         10 => {
             let (name, rest) = take_text(alloc, bytes)?;
             Ok((Control::QueueDeleted { name }, rest))
+        }
+        13 => {
+            let (name, rest) = take_text(alloc, bytes)?;
+            Ok((Control::ArchiveDeleted { name }, rest))
         }
         _ => Err(ReadFault::NotSpelled),
     }
@@ -260,7 +279,7 @@ fn made_rule(alloc: Global, parts: RuleParts<'_>) -> Result<Control, ReadFault>
     })
 }
 
-fn read_pattern(alloc: Global, text: &str) -> Result<SharedPattern, ReadFault>
+pub(crate) fn read_pattern(alloc: Global, text: &str) -> Result<SharedPattern, ReadFault>
     ensures { MatchResult result (λ p. (p ≡ text.now) × IsSomePattern text.now) (Blames (¬ IsSomePattern text.now)) }
 {
     let text = Text::from_str(alloc, text)?;

@@ -1,10 +1,10 @@
 //! Lists as bytes: their length, and their items.
 ghost use Rattle.std.specs.Prelude.{◌≡◌, ◌<◌, ◌^◌, ◌++◌, ℕ, List, length, take, OnOk, OnErr, Option};
 ghost use Rattle.std.specs.List.{flat_map, AllByRecursion};
-ghost use Rattle.entry_bytes.specs.Fields.{four_bytes, text_bytes, list_bytes, IsText, IsList};
+ghost use Rattle.entry_bytes.specs.Fields.{text_bytes, list_bytes, IsText, IsList};
 ghost use Rattle.entry_bytes.specs.Change.{path_bytes, target_bytes, IsPath, IsTarget};
 ghost use Rattle.entry_bytes.specs.Duty.{duty_bytes, IsDuty};
-ghost use Rattle.entry_bytes.specs.Reading.{Gives, text_at, items_at, list_at, no_items_at};
+ghost use Rattle.entry_bytes.specs.Reading.{Gives, text_at, items_at, list_at};
 ghost use Rattle.entry_bytes.specs.ChangeReading.{path_at};
 
 use crate::duty::put_duty;
@@ -117,24 +117,20 @@ fn put_items<T: Put>(items: &[T], out: &mut Bytes) -> Result<(), NoMemory>
     Ok(())
 }
 
-/// A list without an item.
-pub fn put_no_items(out: &mut Bytes) -> Result<(), NoMemory>
-    ensures bytes { OnOk result (out.new ≡ out.old ++ four_bytes 0) }
+/// Writes the texts as a list. A list of 2^32 texts or more is refused as out of memory.
+pub fn put_texts(texts: &[Text], out: &mut Bytes) -> Result<(), NoMemory>
+    ensures bytes { OnOk result (out.new ≡ out.old ++ list_bytes text_bytes texts.now) }
+    ensures fits { OnOk result (IsList IsText texts.now) }
     ensures err { OnErr result (take (length out.old) out.new ≡ out.old) }
 {
-    put_len(0, out)
+    put_list(texts, out)
 }
 
-/// The bytes after a list without an item.
-pub fn take_no_items(bytes: &[u8]) -> Result<&[u8], ReadFault>
-    ensures { Gives (λ x. x.now) result (no_items_at bytes.now) }
+/// The list of texts at the front, and the bytes after it.
+pub fn take_texts(alloc: Global, bytes: &[u8]) -> Result<(Vec<Text>, &[u8]), ReadFault>
+    ensures { Gives (λ x. (x.0.items, x.1.now)) result (list_at text_at bytes.now) }
 {
-    let (count, rest) = take_u32(bytes)?;
-    if count == 0 {
-        Ok(rest)
-    } else {
-        Err(ReadFault::NotSpelled)
-    }
+    take_list(alloc, bytes)
 }
 
 pub(crate) fn take_list<T: Take + Drop>(

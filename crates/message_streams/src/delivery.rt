@@ -42,6 +42,11 @@ pub fn delivery_budget(action: &Action) -> Option<u32>
         | Action::RemoveStatement { .. }
         | Action::PutEvents { .. }
         | Action::TestEventPattern { .. }
+        | Action::CreateArchive { .. }
+        | Action::UpdateArchive { .. }
+        | Action::DeleteArchive { .. }
+        | Action::DescribeArchive { .. }
+        | Action::ListArchives { .. }
         | Action::CreateQueue { .. }
         | Action::DeleteQueue { .. }
         | Action::PeekMessages { .. }

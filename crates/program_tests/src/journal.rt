@@ -1,4 +1,4 @@
-//! Tests of the program with `once --journal` over a host in memory.
+//! Tests of the program with `once --journal` and `serve --journal` over a host in memory.
 use crate::runs::{Served, clocks, door, left, links};
 use bus_host::{MemFile, MemHost};
 use std::alloc::Global;

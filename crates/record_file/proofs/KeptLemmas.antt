@@ -1,16 +1,17 @@
 -- What is kept over an append.
-use Rattle.std.proofs.Common.{◌⊎◌, ℕ, ◌+◌, ◌≤◌, min, List, [], ◌∷◌, ◌++◌, length, Result, Ok, Err, MatchResult}
+use Rattle.std.proofs.Common.{◌≡◌, ◌⊎◌, ℕ, ◌+◌, ◌≤◌, min, List, [], ◌∷◌, ◌++◌, length, Result, Ok, Err, MatchResult}
 use Rattle.std.proofs.Common.{refl, sym, ap, subst, inl, inr, ⊎_elim, ◌∙◌, arith, append_assoc}
 use Rattle.std.proofs.lemmas.List.{append-nil}
 use Rattle.router_disk.specs.declared.disk_call.DiskCall.{DiskCall}
+use Rattle.router_disk.specs.declared.disk_call.DiskCall.TheVariants.{Write, Sync}
 use Rattle.router_disk.specs.declared.fault.Failed.{Failed}
 use Rattle.router_disk.specs.Disk.{AreAnswers, IsImage, IsImageSince}
 use Rattle.router_disk.proofs.DiskLemmas.{IsImage_now}
 use Rattle.record_file.specs.Records.{first_gate, IsFileOf, IsText}
 use Rattle.record_file.specs.Kept.{Begins, Between, IsKept}
 use Rattle.record_file.specs.State.{IsAtRest}
-use Rattle.record_file.specs.Append.{AreAppended, MadeCalls, last}
-use Rattle.record_file.proofs.MomentLemmas.{written_longer, written_two, written_front}
+use Rattle.record_file.specs.Append.{AreAppended, IsWritten, MadeCalls, last}
+use Rattle.record_file.proofs.MomentLemmas.{written_longer, written_front}
 use Rattle.record_file.proofs.CrashLemmas.{Either, append_leaves, append_rests, rests_before}
 
 weaker : (least all more : List (List ℕ)) (file : List ℕ) → Between least all file → Between least (all ++ more) file
@@ -35,11 +36,21 @@ appended_longer old new place text (Err fault) (inl is) = written_longer old (mi
 appended_longer old new place text (Err fault) (inr calls) =
     omega (arith, written_longer old (min (place + 1) last) text (Ok tt) calls.0 calls.1, written_longer calls.0 place (1 ∷ []) (Err fault) new calls.2)
 
+-- the calls of a write stay, and others come after them
+written_more : (old : List DiskCall) (at : ℕ) (bytes : List ℕ) (result : Result (Unit {0}) Failed) (new : List DiskCall) → IsWritten old at bytes result new →
+    (more : List DiskCall) × (new ≡ old ++ more)
+written_more old at bytes (Ok done) new is = (_, is)
+written_more old at bytes (Err fault) new (inl is) = (_, is)
+written_more old at bytes (Err fault) new (inr is) = (_, is)
+
 pub appended_calls : (old new : List DiskCall) (place : ℕ) (text : List ℕ) (result : Result (Unit {0}) Failed) → AreAppended old place text result new →
     MadeCalls old new result
-appended_calls old new place text (Ok done) calls =
-    omega (arith, written_two old (min (place + 1) last) text calls.0 calls.1, written_two calls.0 place (1 ∷ []) new calls.2)
-appended_calls old new place text (Err fault) calls = appended_longer old new place text (Err fault) calls
+appended_calls old new place text (Ok done) (mid, first, second) =
+    (_, second ∙ ap (λ m. m ++ Write place (1 ∷ []) (Ok tt) ∷ Sync (Ok tt) ∷ []) first ∙ append_assoc old _ _, refl)
+appended_calls old new place text (Err fault) (inl is) = written_more old (min (place + 1) last) text (Err fault) new is
+appended_calls old new place text (Err fault) (inr (mid, first, second)) =
+    let more = written_more mid place (1 ∷ []) (Err fault) new second in
+    (_, more.1 ∙ ap (λ m. m ++ more.0) first ∙ append_assoc old _ more.0)
 
 pub appended_front : (first : List ℕ) (old new : List DiskCall) (place : ℕ) (text : List ℕ) (result : Result (Unit {0}) Failed) → AreAppended old place text result new →
     AreAnswers first new → AreAnswers first old

@@ -29,11 +29,6 @@ written_longer old at bytes (Err fault) new (inl is) = omega (arith, ap (λ m. l
 written_longer old at bytes (Err fault) new (inr is) =
     omega (arith, ap (λ m. length m) is, length-append old (Write at bytes (Ok tt) ∷ Sync (Err fault) ∷ []))
 
--- a write and its sync
-pub written_two : (old : List DiskCall) (at : ℕ) (bytes : List ℕ) (new : List DiskCall) → IsWritten old at bytes (Ok tt) new →
-    length new ≡ length old + 2
-written_two old at bytes new is = omega (arith, ap (λ m. length m) is, length-append old (Write at bytes (Ok tt) ∷ Sync (Ok tt) ∷ []))
-
 pub written_front : (first : List ℕ) (old : List DiskCall) (at : ℕ) (bytes : List ℕ) (result : Result (Unit {0}) Failed) (new : List DiskCall) →
     IsWritten old at bytes result new → AreAnswers first new → AreAnswers first old
 written_front first old at bytes (Ok done) new is answers = AreAnswersFrom-front (Some first) old _ (subst (λ cs. AreAnswers first cs) is answers)

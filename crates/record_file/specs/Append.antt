@@ -1,5 +1,5 @@
 -- What an append does.
-use Rattle.std.specs.Prelude.{◌≡◌, ◌⊎◌, ℕ, ◌+◌, ◌-◌, ◌^◌, ◌≤◌, min, List, [], ◌∷◌, ◌++◌, length, Result, Ok, Err, MatchResult}
+use Rattle.std.specs.Prelude.{◌≡◌, ◌⊎◌, ℕ, ◌+◌, ◌-◌, ◌^◌, min, List, [], ◌∷◌, ◌++◌, length, Result, Ok, Err, MatchResult}
 use Rattle.router_disk.specs.declared.disk_call.DiskCall.{DiskCall}
 use Rattle.router_disk.specs.declared.disk_call.DiskCall.TheVariants.{Write, Sync}
 use Rattle.router_disk.specs.declared.fault.Failed.{Failed}
@@ -27,11 +27,11 @@ AreAppended old gate text (Err fault) new =
     IsWritten old (min (gate + 1) last) text (Err fault) new
     ⊎ ((mid : List DiskCall) × IsWritten old (min (gate + 1) last) text (Ok tt) mid × IsWritten mid gate (1 ∷ []) (Err fault) new)
 
--- An append that succeeds has made four calls: a write and a sync, twice. If it fails, the calls before it stay.
+-- The calls before an append stay. If it succeeds it has made four more: a write and a sync, twice.
 -- Shown by: acknowledged_before_second_sync.edit.
 abbrev pub MadeCalls : {T E : Type 0} → List DiskCall → List DiskCall → Result T E → Type 0
-MadeCalls old new (Ok done) = length new ≡ length old + 4
-MadeCalls old new (Err fault) = length old ≤ length new
+MadeCalls old new (Ok done) = (more : List DiskCall) × (new ≡ old ++ more) × (length more ≡ 4)
+MadeCalls old new (Err fault) = (more : List DiskCall) × (new ≡ old ++ more)
 
 -- A crash at any moment of an append, or between it and the next call, leaves a file of the payloads before it, or of these and all of
 -- its own.

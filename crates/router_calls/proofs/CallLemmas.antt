@@ -43,15 +43,15 @@ pub seen_on : (t : Tables) (request : Request) (set : RuleSet) (seen : Seen) →
 seen_on t request set seen m = record { sound = m.sound; version = m.is_seen.k; known = m.known; result = m.is_seen.result }
 
 -- what became of the entries of an action, and the policy, by which it was decided
-record IsBy (t : Tables) (time : List ℕ) (seen : Seen) (action : Action) (d : Decided) : Type 0 where
+record IsBy (t : Tables) (moment : ℕ) (time : List ℕ) (seen : Seen) (action : Action) (d : Decided) : Type 0 where
   pub placed : List Placed
   pub has_placed : HasPlaced t seen.k time seen.result action placed
   pub policy : Option Tree
   pub is_policy : IsPolicyNamed t.set action policy
-  pub is : d ≡ decided t seen.result placed policy action
+  pub is : d ≡ decided t moment seen.result placed policy action
 
 decided_by : (t : Tables) (moment : ℕ) (time : List ℕ) (seen : Seen) (action : Action) (d : Decided) → IsIso moment time
-    → IsDecidedAs t moment seen action d → IsBy t time seen action d
+    → IsDecidedAs t moment seen action d → IsBy t moment time seen action d
 decided_by t moment time seen (put_events entries size) d at is =
     let (placed, are, so) = is time at in
     record { placed = placed; has_placed = are; policy = None; is_policy = refl; is = so }
@@ -83,7 +83,8 @@ answered t request seen moment d a bounded entitled one_turn fits at is so set m
       is_time = subst (λ n. IsIso n time) at shown;
       placed = p.placed;
       has_placed = p.has_placed;
-      answers = so ∙ ap (λ n. answer_at t n d) at ∙ ap (λ (x : Decided). answer_at t (moment_at t request.reading) x) p.is;
+      answers = so ∙ ap (λ n. answer_at t n d) at ∙ ap (λ (x : Decided). answer_at t (moment_at t request.reading) x)
+          (p.is ∙ ap (λ n. decided t n seen.result p.placed p.policy request.action) at);
     }
 
 -- the events that a caller publishes have accounts of callers

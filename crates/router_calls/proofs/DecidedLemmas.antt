@@ -1,9 +1,10 @@
--- What is decided of a change, and what it needs to be made: `none_made`, `one_made` and `one_written` (no operation, or one), `allowed_so`,
+-- What is decided of a change, and what it needs to be made: `none_made`, `one_made` and `one_written` (no operation, or one), `ready_so` (its batch), `allowed_so`,
 -- `refused_so` and `controlled_so` (a change that is allowed, or refused), `on_rule_found` (a call on a rule), `items_decided` (items that succeed or
 -- fail one by one).
-use Rattle.std.proofs.Common.{◌≡◌, ℕ, ◌<◌, inl, Bool, true, false, List, [], ◌∷◌, length, map, Some, sym, refl, ap, ◌∙◌, subst, arith}
+use Rattle.std.proofs.Common.{◌≡◌, ℕ, ◌<◌, ◌≤◌, inl, Bool, true, false, List, [], ◌∷◌, length, map, Some, sym, refl, ap, ◌∙◌, subst, arith}
 use Rattle.std.specs.Prelude.{cond, codes, Result, Ok, Err, IfOk}
 use Rattle.std.proofs.lemmas.List.{length-map}
+use Rattle.json_text.specs.Moment.{IsMoment}
 use Rattle.json_text.specs.View.{tree_of, trees_of}
 use Rattle.json_text.specs.declared.value.Json.{Json}
 use Rattle.rule_table.specs.declared.control.ControlFault.{ControlFault}
@@ -17,44 +18,46 @@ use Rattle.api_replies.specs.declared.cause.Cause.{Cause}
 use Rattle.api_replies.specs.Reply.{Reply, refused}
 use Rattle.call_replies.specs.Causes.{change_cause}
 use Rattle.call_replies.specs.Replies.{items_reply, target_report, targets_reply}
-use Rattle.router_core.specs.Admitted.{AreAdmitted, IsEntryAdmitted}
+use Rattle.router_core.specs.Admitted.{AreAdmitted, IsAdmitted, IsEntryAdmitted}
 use Rattle.router_core.specs.Batch as batch
-use Rattle.router_core.specs.Ready.{IsPartOf, ArePartsOf}
-use Rattle.router_core.specs.Tables.{Tables}
-use Rattle.router_core.specs.View.{entry_of}
+use Rattle.router_core.specs.Ready.{IsPartOf, ArePartsOf, IsReadyFor}
+use Rattle.router_core.specs.Tables.{Tables, is_full}
+use Rattle.router_core.specs.View.{batch_of, entry_of}
+use Rattle.router_core.specs.declared.batch.Batch.{Batch}
 use Rattle.router_core.specs.declared.ready.Part.{Part}
+use Rattle.router_core.specs.declared.ready.Ready.{Ready}
 use Rattle.router_calls.specs.Answer as answer
-use Rattle.router_calls.specs.Answer.{change_reply, controlled, for_rule, on_rule, shown, unless_none, writes}
+use Rattle.router_calls.specs.Answer.{controlled, on_rule, shown, unless_none, writes}
 use Rattle.router_core.specs.declared.batch.Entry.{Entry}
 use Rattle.router_calls.specs.Decided.{decided_of, CanBeMade}
 use Rattle.router_calls.specs.declared.decided.Decided.{Decided}
 
 -- nothing is written
-pub none_made : (t : Tables) (d : Decided) → d.entries.items ≡ [] → d.parts.items ≡ [] → CanBeMade t d
-none_made t d none no_parts =
+pub none_made : (t : Tables) (moment : ℕ) (d : Decided) → d.entries.items ≡ [] → d.parts.items ≡ [] → CanBeMade t moment d
+none_made t moment d none no_parts =
     let entries : map entry_of d.entries.items ≡ [] = ap (map entry_of) none in
     record {
       one_turn = λ some. absurd (omega (arith, some, ap length entries));
-      admitted = λ moment. subst (λ (es : List batch.Entry). AreAdmitted moment es t) (sym entries) tt;
-      parts = subst (λ (es : List batch.Entry). ArePartsOf t.set es d.parts.items) (sym entries) no_parts;
+      admitted = subst (λ (es : List batch.Entry). AreAdmitted moment es t) (sym entries) tt;
+      parts = subst (λ (es : List batch.Entry). ArePartsOf moment t.set es d.parts.items) (sym entries) no_parts;
     }
 
 -- one operation is written
-pub one_made : (t : Tables) (d : Decided) (e : batch.Entry) (part : Part) → map entry_of d.entries.items ≡ e ∷ [] → d.parts.items ≡ part ∷ []
-    → ((moment : ℕ) → IsEntryAdmitted moment e t) → IsPartOf t.set e part → CanBeMade t d
-one_made t d e part entries parts admitted fits = record {
+pub one_made : (t : Tables) (moment : ℕ) (d : Decided) (e : batch.Entry) (part : Part) → map entry_of d.entries.items ≡ e ∷ [] → d.parts.items ≡ part ∷ []
+    → IsEntryAdmitted moment e t → IsPartOf moment t.set e part → CanBeMade t moment d
+one_made t moment d e part entries parts admitted fits = record {
   one_turn = λ some. inl (e, entries);
-  admitted = λ moment. subst (λ (es : List batch.Entry). AreAdmitted moment es t) (sym entries) (admitted moment, tt);
-  parts = subst (λ (es : List batch.Entry). ArePartsOf t.set es d.parts.items) (sym entries)
-      (subst (λ (ps : List Part). ArePartsOf t.set (e ∷ []) ps) (sym parts) (fits, refl));
+  admitted = subst (λ (es : List batch.Entry). AreAdmitted moment es t) (sym entries) (admitted, tt);
+  parts = subst (λ (es : List batch.Entry). ArePartsOf moment t.set es d.parts.items) (sym entries)
+      (subst (λ (ps : List Part). ArePartsOf moment t.set (e ∷ []) ps) (sym parts) (fits, refl));
 }
 
 -- one operation was written
-pub one_written : {E : Type 0} (r : Result Decided E) (t : Tables) (e : Entry) (part : Part) → IfOk r (λ d. d.entries.items ≡ e ∷ [])
-    → IfOk r (λ d. d.parts.items ≡ part ∷ []) → ((moment : ℕ) → IsEntryAdmitted moment (entry_of e) t) → IsPartOf t.set (entry_of e) part
-    → IfOk r (λ d. CanBeMade t d)
-one_written (Ok d) t e part entries parts admitted fits = one_made t d (entry_of e) part (ap (map entry_of) entries) parts admitted fits
-one_written (Err x) t e part entries parts admitted fits = tt
+pub one_written : {E : Type 0} (r : Result Decided E) (t : Tables) (moment : ℕ) (e : Entry) (part : Part) → IfOk r (λ d. d.entries.items ≡ e ∷ [])
+    → IfOk r (λ d. d.parts.items ≡ part ∷ []) → IsEntryAdmitted moment (entry_of e) t → IsPartOf moment t.set (entry_of e) part
+    → IfOk r (λ d. CanBeMade t moment d)
+one_written (Ok d) t moment e part entries parts admitted fits = one_made t moment d (entry_of e) part (ap (map entry_of) entries) parts admitted fits
+one_written (Err x) t moment e part entries parts admitted fits = tt
 
 -- the same change with the same reply
 pub controlled_so : {E : Type 0} (r : Result Decided E) (set : RuleSet) {c d : Control} {reply other : Reply} → c ≡ d → reply ≡ other
@@ -103,3 +106,21 @@ items_decided xs ys c d reports failed some x items change are there none is =
     let reply = items_reply (length reports) (codes "FailedEntries") (trees_of reports) in
     is ∙ some_so xs c reply some there none ∙ ap (λ zs. unless_none zs c reply) items ∙ ap (λ (e : Control). unless_none ys e reply) change
     ∙ ap (unless_none ys d) (reply_so failed reports are)
+
+-- the batch of operations that were decided is ready
+abbrev batch_from : ℕ → Decided → Batch
+batch_from moment d = record { moment = moment; entries = d.entries }
+
+pub ready_so : (t : Tables) (moment : ℕ) (d : Decided) (r : Ready) → r.batch ≡ batch_from moment d → r.parts.items ≡ d.parts.items → IsMoment moment
+    → t.moment ≤ moment → is_full t ≡ false → 1 ≤ length d.entries.items → CanBeMade t moment d → IsReadyFor t r
+ready_so t moment d r is parts fits later numbered some made = record {
+  admitted = subst (λ (b : Batch). IsAdmitted t (batch_of b)) (sym is) (record {
+    moment = fits;
+    later = later;
+    numbered = numbered;
+    one_turn = made.one_turn (omega (arith, some, length-map d.entries.items entry_of));
+    entries = made.admitted;
+  });
+  prepared = subst (λ (b : Batch). ArePartsOf b.moment t.set (batch_of b).entries r.parts.items) (sym is)
+      (subst (λ (ps : List Part). ArePartsOf moment t.set (map entry_of d.entries.items) ps) (sym parts) made.parts);
+}

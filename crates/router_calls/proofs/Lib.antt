@@ -9,10 +9,12 @@
 pub mod TimeLemmas
 pub mod CallLemmas
 pub mod DecidedLemmas
+pub mod KeptLemmas
 pub mod EntryLemmas
 pub mod TargetLemmas
 pub mod RemovalLemmas
 pub mod QueueLemmas
+pub mod ArchiveLemmas
 pub mod PolicyLemmas
 pub mod OneLemmas
 pub mod FormLemmas

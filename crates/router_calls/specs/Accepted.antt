@@ -1,16 +1,18 @@
 -- What the entries of a PutEvents become.
-use Rattle.std.specs.Prelude.{◌≡◌, ◌≤◌, ℕ, ◌+◌, Bool, false, List, [], ◌∷◌, map, All, Result, Ok, Err, None}
+use Rattle.std.specs.Prelude.{◌≡◌, ◌≤◌, ℕ, ◌+◌, ◌==◌, Bool, false, List, [], ◌∷◌, map, filter, All, Option, Some, None, Result, Ok, Err}
 use Rattle.json_text.specs.Tree.{Tree}
 use Rattle.json_text.specs.Compact.{compact_text, tree_levels}
 use Rattle.event_shape.specs.Event.{IsEventAt, event_tree}
 use Rattle.event_shape.specs.Unnumbered.{Unnumbered, with_number}
 use Rattle.event_shape.specs.declared.entry.EntryFault.{EntryFault}
 use Rattle.input_transform.specs.Stored.{IsScene}
+use Rattle.rule_table.specs.RuleSet.{Archive, RuleSet, archive_at}
 use Rattle.api_replies.specs.declared.member.Member.TheVariants as member
 use Rattle.api_replies.specs.declared.cause.Cause.{Cause}
 use Rattle.api_replies.specs.declared.cause.Cause.TheVariants as cause
 use Rattle.router_core.specs.Batch as batch
 use Rattle.router_core.specs.Duties.{AreDuties, scene_at}
+use Rattle.router_core.specs.declared.seen.SeenArchive.{SeenArchive}
 use Rattle.router_core.specs.declared.seen.SeenEntry.{SeenEntry}
 use Rattle.router_core.specs.declared.seen.SeenResult.{SeenResult}
 use Rattle.router_core.specs.declared.seen.SeenResult.TheVariants.{Entries, Tested, Nothing}
@@ -29,21 +31,38 @@ Given = Result Unnumbered EntryFault
 abbrev pub Placed : Type 0
 Placed = Result batch.Accepted Cause
 
--- What matching found of an entry: the verdict, and the targets of the rules that match its event.
+-- there is an archive, and this is the configuration version after its creation
+abbrev pub is_made_at : ℕ → Option Archive → Bool
+is_made_at made None = false
+is_made_at made (Some archive) = archive.made == made
+
+-- The archive that matching found is still there: the rule set has one of its name that the same change created.
+-- Shown by: proofs alone.
+abbrev pub is_still_there : RuleSet → SeenArchive → Bool
+is_still_there set found = is_made_at found.made (archive_at found.name set)
+
+-- The names of the archives that keep an event: of those that matching found, the ones that are still there.
+-- Shown by: proofs alone.
+abbrev pub archives_kept : RuleSet → List SeenArchive → List (List ℕ)
+archives_kept set found = map (λ a. a.name) (filter (is_still_there set) found)
+
+-- What matching found of an entry: the verdict, the targets of the rules that match its event, and the names of the archives that keep it
+-- and that the tables still have.
 -- Shown by: tables router_calls.rows: each_request_is_answered.
 pub record Found : Type 0 where
   pub verdict : SeenVerdict
   pub targets : List SeenTarget
+  pub archives : List (List ℕ)
 
--- what contracts see of what the code found of an entry
-abbrev pub found_of : SeenEntry → Found
-found_of seen = record { verdict = seen.verdict; targets = seen.targets.items }
+-- what contracts see of what the code found of an entry, where this is the tables' rule set
+abbrev pub found_of : RuleSet → SeenEntry → Found
+found_of set seen = record { verdict = seen.verdict; targets = seen.targets.items; archives = archives_kept set seen.archives.items }
 
 -- what matching found of each entry of a PutEvents; of another request there is none
-abbrev pub entries_seen : SeenResult → List Found
-entries_seen (Entries all) = map found_of all.items
-entries_seen (Tested matches) = []
-entries_seen Nothing = []
+abbrev pub entries_seen : RuleSet → SeenResult → List Found
+entries_seen set (Entries all) = map (found_of set) all.items
+entries_seen set (Tested matches) = []
+entries_seen set Nothing = []
 
 -- whether matching found that the pattern of a TestEventPattern matches
 abbrev pub is_tested : SeenResult → Bool
@@ -61,16 +80,18 @@ numbered_tree n event = event_tree (with_number n event.event) None
 abbrev pub numbered_text : ℕ → Unnumbered → List ℕ
 numbered_text n event = compact_text (numbered_tree n event)
 
--- What an allowed entry becomes: its event with this number, matched on configuration version k, with a duty for each of these targets, whose
--- texts are filled with the time text of the batch's moment. The event's account is the one that the entry was made with (`IsEntitled`: its
+-- What an allowed entry becomes: its event with this number, matched on configuration version k, kept by the archives of these names, with a
+-- duty for each of these targets, whose texts are filled with the time text of the batch's moment. The event's account is the one that the entry was made with (`IsEntitled`: its
 -- caller), and its time is the text of its moment.
 -- Shown by: tables router_calls.rows: each_request_is_answered; templates.
-pub record IsAcceptedAs (k n : ℕ) (time : List ℕ) (event : Unnumbered) (targets : List SeenTarget) (a : batch.Accepted) : Type 0 where
+pub record IsAcceptedAs (k n : ℕ) (time : List ℕ) (event : Unnumbered) (targets : List SeenTarget) (names : List (List ℕ)) (a : batch.Accepted)
+    : Type 0 where
   pub number : a.number ≡ n
   pub bus : a.bus ≡ event.bus
   pub version : a.k ≡ k
   pub at : a.time ≡ event.moment
   pub text : a.text ≡ numbered_text n event
+  pub archives : a.archives ≡ names
   pub duties : AreDuties (numbered_tree n event) time targets a.duties
   pub is_event : IsEventAt event.moment (with_number n event.event)
 
@@ -88,17 +109,17 @@ pub record HasScenes (e : batch.Accepted) : Type 0 where
 -- What becomes of an event with this verdict: an event without a bus is refused for `EventBusName`, a denied one by the statement that
 -- denies it, one that no statement allows as such. An allowed event is accepted.
 -- Shown by: tables router_calls.rows: each_change_is_answered.
-abbrev pub IsEventPlaced : ℕ → ℕ → List ℕ → Unnumbered → SeenVerdict → List SeenTarget → Placed → Type 0
-IsEventPlaced k n time event verdict.Allowed targets p = (a : batch.Accepted) × IsAcceptedAs k n time event targets a × (p ≡ Ok a)
-IsEventPlaced k n time event verdict.NoBus targets p = p ≡ Err (cause.Parameter member.EventBusName)
-IsEventPlaced k n time event (verdict.DeniedBy statement_name) targets p = p ≡ Err (cause.DeniedBy statement_name)
-IsEventPlaced k n time event verdict.NotAllowed targets p = p ≡ Err cause.NotAllowed
-IsEventPlaced k n time event (verdict.Fault fault) targets p = p ≡ Err (entry_cause fault)
+abbrev pub IsEventPlaced : ℕ → ℕ → List ℕ → Unnumbered → SeenVerdict → List SeenTarget → List (List ℕ) → Placed → Type 0
+IsEventPlaced k n time event verdict.Allowed targets archives p = (a : batch.Accepted) × IsAcceptedAs k n time event targets archives a × (p ≡ Ok a)
+IsEventPlaced k n time event verdict.NoBus targets archives p = p ≡ Err (cause.Parameter member.EventBusName)
+IsEventPlaced k n time event (verdict.DeniedBy statement_name) targets archives p = p ≡ Err (cause.DeniedBy statement_name)
+IsEventPlaced k n time event verdict.NotAllowed targets archives p = p ≡ Err cause.NotAllowed
+IsEventPlaced k n time event (verdict.Fault fault) targets archives p = p ≡ Err (entry_cause fault)
 
 -- What becomes of an entry by what matching found of it, if the next event gets the number n: a fault is refused for its cause.
 -- Shown by: an_entry_that_is_not_allowed_is_accepted.edit.
 abbrev pub IsPlaced : ℕ → ℕ → List ℕ → Given → Found → Placed → Type 0
-IsPlaced k n time (Ok event) found p = IsEventPlaced k n time event found.verdict found.targets p
+IsPlaced k n time (Ok event) found p = IsEventPlaced k n time event found.verdict found.targets found.archives p
 IsPlaced k n time (Err fault) found p = p ≡ Err (entry_cause fault)
 
 -- the number of the next event

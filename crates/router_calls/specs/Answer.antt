@@ -1,7 +1,8 @@
 -- The router machine: what a request changes and what its reply is. Both are a function of the request, the tables, what matching found,
 -- what became of its entries, and the policy that it names.
 use Rattle.std.specs.Prelude.{◌≡◌, ℕ, ◌+◌, ◌≤◌, is_some, not, ◌&&◌, nat_lt, if◌then◌else◌, Bool, false, List, [], ◌∷◌, length, map}
-use Rattle.std.specs.Prelude.{Option, Some, None, Ok, Err, codes}
+use Rattle.std.specs.Prelude.{Option, Some, None, Ok, Err, codes, unwrap_or}
+use Rattle.std.specs.Option.{option_or}
 use Rattle.json_text.specs.Compact.{compact_text}
 use Rattle.json_text.specs.Limits.{most_together}
 use Rattle.api_replies.specs.declared.member.Member.TheVariants as member
@@ -13,8 +14,11 @@ use Rattle.rule_targets.specs.declared.target.AskedTarget.{AskedTarget}
 use Rattle.rule_targets.specs.declared.target.Target.{Target}
 use Rattle.rule_table.specs.declared.control.ControlFault.{ControlFault}
 use Rattle.rule_table.specs.Control.{Control, bus_created, bus_deleted, rule_put, rule_deleted, state_put, targets_put}
-use Rattle.rule_table.specs.Control.{targets_removed, policy_put, queue_created, queue_deleted}
-use Rattle.rule_table.specs.RuleSet.{Rule, RuleSet, has_bus, has_queue, rule_at}
+use Rattle.rule_table.specs.Control.{targets_removed, policy_put, queue_created, queue_deleted, archive_created, archive_updated, archive_deleted}
+use Rattle.archive_keep.specs.Archive.{Archive}
+use Rattle.archive_keep.specs.Archives.{name_of}
+use Rattle.name_rows.specs.Rows.{named}
+use Rattle.rule_table.specs.RuleSet.{Archive as Row, Rule, RuleSet, archive_at, has_bus, has_queue, rule_at}
 use Rattle.rule_table.specs.Refusal as table
 use Rattle.delivery_queues.specs.declared.stored.StoredMessage.{StoredMessage}
 use Rattle.delivery_queues.specs.Queues.{messages_of, messages_through}
@@ -27,7 +31,8 @@ use Rattle.api_replies.specs.Reply.{Reply, served, refused, no_memory}
 use Rattle.router_core.specs.Request.{Action, Request, create_event_bus, delete_event_bus, describe_event_bus, list_event_buses, put_rule, delete_rule}
 use Rattle.router_core.specs.Request.{put_rule_state, describe_rule, list_rules, put_targets, remove_targets, list_targets_by_rule}
 use Rattle.router_core.specs.Request.{list_rule_names_by_target, put_policy, put_statement, remove_policy, remove_statement, put_events}
-use Rattle.router_core.specs.Request.{test_event_pattern, create_queue, delete_queue, peek_messages, delete_messages, duty_counts, deliver_due}
+use Rattle.router_core.specs.Request.{test_event_pattern, create_archive, update_archive, delete_archive, describe_archive, list_archives}
+use Rattle.router_core.specs.Request.{create_queue, delete_queue, peek_messages, delete_messages, duty_counts, deliver_due}
 use Rattle.router_core.specs.Request.{IsEntitled, IsOneTurn, IsPublishing}
 use Rattle.router_core.specs.Batch as batch
 use Rattle.router_core.specs.Bounds.{IsBounded}
@@ -35,6 +40,7 @@ use Rattle.router_core.specs.Matching.{IsSeenResult}
 use Rattle.router_core.specs.Tables.{Tables, is_full, moment_at}
 use Rattle.router_core.specs.declared.seen.SeenResult.{SeenResult}
 use Rattle.config_views.specs.Views.{described_bus, listed_buses, described_rule, listed_rules, listed_targets, listed_rule_names}
+use Rattle.config_views.specs.Archives.{archive_reply, described_archive, listed_archives}
 use Rattle.call_replies.specs.Causes.{change_cause}
 use Rattle.call_replies.specs.Replies.{empty_reply, items_reply, targets_reply, peeked, deletion_reply, duties_reply, tested_reply}
 use Rattle.router_calls.specs.Accepted.{Placed, ArePlaced, entries_seen, is_tested, events_in, failures_in}
@@ -180,39 +186,68 @@ messages_deletion t queue through =
     if has_queue queue t.set then deletion_of queue through (messages_through through (messages_of queue t.duties.queues))
     else refusal (cause.NotFound kind.Queue queue)
 
--- What is decided of an action, from the tables before its turn. Arguments are what matching found of it, what became of its entries
+-- the change of an archive to this pattern and these days; those that are not given stay as they are
+abbrev pub update_of : List ℕ → Option (List ℕ) → Option ℕ → Row → Archive → Control
+update_of name pattern days row archive = archive_updated name (option_or pattern row.pattern) (unwrap_or days archive.days)
+
+-- what is decided for the archive that is there, or the refusal of an archive of this name
+abbrev pub for_archive : List ℕ → (Row → Archive → Decided) → Option Row → Option Archive → Decided
+for_archive name decided (Some row) (Some archive) = decided row archive
+for_archive name decided _ _ = refusal (cause.NotFound kind.Archive name)
+
+-- What is decided of a call on an archive: a missing one is refused. The rule set and the archives of tables have the same names
+-- (router_core `IsConsistent`).
+-- Shown by: tables router_calls.rows: archives_are_changed.
+abbrev pub on_archive : Tables → List ℕ → (Row → Archive → Decided) → Decided
+on_archive t name decided = for_archive name decided (archive_at name t.set) (named name_of name t.archives)
+
+-- UpdateArchive: an archive gets the pattern and the days that are given, also where nothing changes by it. Its reply has the moment of the
+-- archive's creation.
+-- Shown by: an_update_forgets_the_days.edit; tables router_calls.rows: archives_are_changed.
+abbrev pub archive_update : Tables → List ℕ → Option (List ℕ) → Option ℕ → Decided
+archive_update t name pattern days =
+    on_archive t name (λ row archive. controlled t.set (update_of name pattern days row archive) (archive_reply name archive.created))
+
+-- What is decided of an action at the moment of its turn, from the tables before it. Arguments are what matching found of it, what became of its entries
 -- (`HasPlaced`), and the policy of the bus that it names (`IsPolicyNamed`). Everything but events goes by the tables' own rule set. What is
 -- said of a DeliverDue has no use: it is answered by its steps (router_sessions `IsDelivery`).
 -- Shown by: tables router_calls.rows: each_request_is_answered.
-abbrev pub decided : Tables → SeenResult → List Placed → Option Tree → Action → Decided
-decided t seen placed policy (create_event_bus name) =
+abbrev pub decided : Tables → ℕ → SeenResult → List Placed → Option Tree → Action → Decided
+decided t moment seen placed policy (create_event_bus name) =
     controlled t.set (bus_created name) (served ((codes "EventBusArn", text (bus_arn name)) ∷ []))
-decided t seen placed policy (delete_event_bus name) = controlled t.set (bus_deleted name) empty_reply
-decided t seen placed policy (describe_event_bus name) = shown (described_bus name t.set)
-decided t seen placed policy (list_event_buses prefix) = shown (listed_buses prefix t.set)
-decided t seen placed policy (put_rule bus name pattern enabled) =
+decided t moment seen placed policy (delete_event_bus name) = controlled t.set (bus_deleted name) empty_reply
+decided t moment seen placed policy (describe_event_bus name) = shown (described_bus name t.set)
+decided t moment seen placed policy (list_event_buses prefix) = shown (listed_buses prefix t.set)
+decided t moment seen placed policy (put_rule bus name pattern enabled) =
     controlled t.set (rule_put bus name pattern enabled) (served ((codes "RuleArn", text (rule_arn bus name)) ∷ []))
-decided t seen placed policy (delete_rule bus name) = rule_deletion t.set bus name
-decided t seen placed policy (put_rule_state bus name enabled) = controlled t.set (state_put bus name enabled) empty_reply
-decided t seen placed policy (describe_rule bus name) = shown (described_rule bus name t.set)
-decided t seen placed policy (list_rules bus prefix) = shown (listed_rules bus prefix t.set)
-decided t seen placed policy (put_targets bus rule targets) = on_rule t.set bus rule (λ r. targets_decided t.set bus rule r.targets targets)
-decided t seen placed policy (remove_targets bus rule ids) = on_rule t.set bus rule (λ r. removals_decided bus rule r.targets ids)
-decided t seen placed policy (list_targets_by_rule bus rule) = shown (listed_targets bus rule t.set)
-decided t seen placed policy (list_rule_names_by_target arn bus) = shown (listed_rule_names arn bus t.set)
-decided t seen placed policy (put_policy bus given) = controlled t.set (policy_put bus (Some given)) empty_reply
-decided t seen placed policy (put_statement bus sid account) = on_bus t.set bus (statement_put t.set bus sid account policy)
-decided t seen placed policy (remove_policy bus) = controlled t.set (policy_put bus None) empty_reply
-decided t seen placed policy (remove_statement bus sid) = on_bus t.set bus (statement_removed t.set bus sid policy)
-decided t seen placed policy (put_events entries size) = publication placed size
-decided t seen placed policy (test_event_pattern pattern event) = shown (tested_reply (is_tested seen))
-decided t seen placed policy (create_queue name) =
+decided t moment seen placed policy (delete_rule bus name) = rule_deletion t.set bus name
+decided t moment seen placed policy (put_rule_state bus name enabled) = controlled t.set (state_put bus name enabled) empty_reply
+decided t moment seen placed policy (describe_rule bus name) = shown (described_rule bus name t.set)
+decided t moment seen placed policy (list_rules bus prefix) = shown (listed_rules bus prefix t.set)
+decided t moment seen placed policy (put_targets bus rule targets) = on_rule t.set bus rule (λ r. targets_decided t.set bus rule r.targets targets)
+decided t moment seen placed policy (remove_targets bus rule ids) = on_rule t.set bus rule (λ r. removals_decided bus rule r.targets ids)
+decided t moment seen placed policy (list_targets_by_rule bus rule) = shown (listed_targets bus rule t.set)
+decided t moment seen placed policy (list_rule_names_by_target arn bus) = shown (listed_rule_names arn bus t.set)
+decided t moment seen placed policy (put_policy bus given) = controlled t.set (policy_put bus (Some given)) empty_reply
+decided t moment seen placed policy (put_statement bus sid account) = on_bus t.set bus (statement_put t.set bus sid account policy)
+decided t moment seen placed policy (remove_policy bus) = controlled t.set (policy_put bus None) empty_reply
+decided t moment seen placed policy (remove_statement bus sid) = on_bus t.set bus (statement_removed t.set bus sid policy)
+decided t moment seen placed policy (put_events entries size) = publication placed size
+decided t moment seen placed policy (test_event_pattern pattern event) = shown (tested_reply (is_tested seen))
+decided t moment seen placed policy (create_archive name bus pattern days) =
+    controlled t.set (archive_created name bus pattern days) (archive_reply name moment)
+decided t moment seen placed policy (update_archive name pattern days) = archive_update t name pattern days
+decided t moment seen placed policy (delete_archive name) = controlled t.set (archive_deleted name) empty_reply
+decided t moment seen placed policy (describe_archive name) = shown (described_archive name moment t.set t.archives)
+decided t moment seen placed policy (list_archives prefix source state) =
+    shown (listed_archives prefix source state moment t.set t.archives)
+decided t moment seen placed policy (create_queue name) =
     controlled t.set (queue_created name) (served ((codes "QueueArn", text (queue_arn name)) ∷ []))
-decided t seen placed policy (delete_queue name) = queue_deletion t name
-decided t seen placed policy (peek_messages queue limit) = shown (peeked queue limit t.set t.duties)
-decided t seen placed policy (delete_messages queue through) = messages_deletion t queue through
-decided t seen placed policy duty_counts = shown (duties_reply t.duties)
-decided t seen placed policy (deliver_due budget) = shown empty_reply
+decided t moment seen placed policy (delete_queue name) = queue_deletion t name
+decided t moment seen placed policy (peek_messages queue limit) = shown (peeked queue limit t.set t.duties)
+decided t moment seen placed policy (delete_messages queue through) = messages_deletion t queue through
+decided t moment seen placed policy duty_counts = shown (duties_reply t.duties)
+decided t moment seen placed policy (deliver_due budget) = shown empty_reply
 
 -- What a request's turn writes, a batch or none, and its reply.
 -- Shown by: tables router_calls.rows: each_request_is_answered.
@@ -239,7 +274,7 @@ answer_at t moment d = written t moment d.entries d.reply
 -- Shown by: tables router_calls.rows: each_request_is_answered.
 abbrev pub HasPlaced : Tables → ℕ → List ℕ → SeenResult → Action → List Placed → Type 0
 HasPlaced t k time seen (put_events entries size) placed =
-    nat_lt most_together size ≡ false → ArePlaced k (t.events + 1) time entries (entries_seen seen) placed
+    nat_lt most_together size ≡ false → ArePlaced k (t.events + 1) time entries (entries_seen t.set seen) placed
 HasPlaced t k time seen action placed = Unit {0}
 
 -- The answer to a request that one turn answers: `decided` at the moment of the turn, on a configuration version that the tables have had.
@@ -262,4 +297,4 @@ pub record IsAnswer (t : Tables) (request : Request) (k : ℕ) (set : RuleSet) (
   pub is_time : IsIso (moment_at t request.reading) time
   pub placed : List Placed
   pub has_placed : HasPlaced t k time seen request.action placed
-  pub answers : a ≡ answer_at t (moment_at t request.reading) (decided t seen placed policy request.action)
+  pub answers : a ≡ answer_at t (moment_at t request.reading) (decided t (moment_at t request.reading) seen placed policy request.action)

@@ -21,8 +21,8 @@ answer_of p = record { batch = option_map (λ r. batch_of r.batch) p.0; reply = 
 abbrev pub decided_of : Decided → answer.Decided
 decided_of d = record { entries = map entry_of d.entries.items; reply = reply_of d.reply }
 
--- for private clauses: operations that the tables admit as a batch of any moment, each with its part
-pub record CanBeMade (t : Tables) (d : Decided) : Type 0 where
+-- for private clauses: operations that the tables admit as a batch of this moment, each with its part
+pub record CanBeMade (t : Tables) (moment : ℕ) (d : Decided) : Type 0 where
   pub one_turn : 1 ≤ length (map entry_of d.entries.items) → AreOfOneTurn (map entry_of d.entries.items)
-  pub admitted : (moment : ℕ) → AreAdmitted moment (map entry_of d.entries.items) t
-  pub parts : ArePartsOf t.set (map entry_of d.entries.items) d.parts.items
+  pub admitted : AreAdmitted moment (map entry_of d.entries.items) t
+  pub parts : ArePartsOf moment t.set (map entry_of d.entries.items) d.parts.items

@@ -54,10 +54,10 @@ IsPublication t k moment entries found size d =
 
 -- what is decided of an action at a moment by what was seen of it
 abbrev pub IsDecidedAs : Tables → ℕ → Seen → Action → Decided → Type 0
-IsDecidedAs t moment seen (put_events entries size) d = IsPublication t seen.k moment entries (entries_seen seen.result) size d
+IsDecidedAs t moment seen (put_events entries size) d = IsPublication t seen.k moment entries (entries_seen t.set seen.result) size d
 IsDecidedAs t moment seen (put_statement bus sid account) d = IsByPolicy t.set bus (statement_put t.set bus sid account) d
 IsDecidedAs t moment seen (remove_statement bus sid) d = IsByPolicy t.set bus (statement_removed t.set bus sid) d
-IsDecidedAs t moment seen action d = d ≡ decided t seen.result [] None action
+IsDecidedAs t moment seen action d = d ≡ decided t moment seen.result [] None action
 
 -- the results of matching entries of this caller, on configuration version k, which the tables have had
 pub record AreSeenOn (t : Tables) (set : RuleSet) (caller : List ℕ) (entries : List Given) (k : ℕ) (all : List SeenEntry) : Type 0 where
@@ -82,18 +82,18 @@ HaveAccounts (put_events entries size) = All HasAccount entries
 HaveAccounts action = Unit {0}
 
 -- entries that became this add events with their parts, and reports
-pub record Adds (all : List Placed) (old new : PlacedEntries) : Type 0 where
+pub record Adds (moment : ℕ) (all : List Placed) (old new : PlacedEntries) : Type 0 where
   pub events : map entry_of new.entries.items ≡ map entry_of old.entries.items ++ map batch.accepted (events_in all)
-  pub parts : (s : RuleSet) → ArePartsOf s (map entry_of old.entries.items) old.parts.items
-      → ArePartsOf s (map entry_of new.entries.items) new.parts.items
+  pub parts : (s : RuleSet) → ArePartsOf moment s (map entry_of old.entries.items) old.parts.items
+      → ArePartsOf moment s (map entry_of new.entries.items) new.parts.items
   pub reports : trees_of new.reports.items ≡ trees_of old.reports.items ++ map entry_report all
   pub failed : new.failed ≡ old.failed + failures_in all
 
--- the entries, of which the first event gets the number n, add what they became
-pub record Places (k n : ℕ) (time : List ℕ) (entries : List Given) (found : List Found) (old new : PlacedEntries) : Type 0 where
+-- the entries, of which the first event gets the number n, add what they became to a batch of this moment
+pub record Places (k n moment : ℕ) (time : List ℕ) (entries : List Given) (found : List Found) (old new : PlacedEntries) : Type 0 where
   pub all : List Placed
   pub are : ArePlaced k n time entries found all
-  pub adds : Adds all old new
+  pub adds : Adds moment all old new
 
 -- what is decided for the entries that were placed
 abbrev pub placed_decided : PlacedEntries → Decided
@@ -102,12 +102,12 @@ placed_decided all = record {
   reply = items_reply all.failed (codes "Entries") (trees_of all.reports.items);
 }
 
--- the events that were placed are those of one turn, are admitted, and have their parts
-pub record AreReady (t : Tables) (all : PlacedEntries) : Type 0 where
+-- the events that were placed are those of one turn, are admitted at the moment, and have their parts
+pub record AreReady (t : Tables) (moment : ℕ) (all : PlacedEntries) : Type 0 where
   pub few : length (map entry_of all.entries.items) ≤ 10
   pub are_events : All IsAnEvent (map entry_of all.entries.items)
-  pub admitted : (moment : ℕ) → AreAdmitted moment (map entry_of all.entries.items) t
-  pub parts : ArePartsOf t.set (map entry_of all.entries.items) all.parts.items
+  pub admitted : AreAdmitted moment (map entry_of all.entries.items) t
+  pub parts : ArePartsOf moment t.set (map entry_of all.entries.items) all.parts.items
 
 -- the targets add those that are accepted, and reports of the others
 pub record AddsTargets (set : RuleSet) (targets : List AskedTarget) (old new : SplitTargets) : Type 0 where
@@ -126,10 +126,10 @@ pub record IsOneSplit (set : RuleSet) (target : AskedTarget) (old new : SplitTar
   pub reports : trees_of new.reports.items
       ≡ trees_of old.reports.items ++ map target_report (failed_first (target_fault set old.have.items target) target [])
 
--- the event is added, with its part and its report
-pub record IsEventAdded (event : AcceptedEvent) (old new : PlacedEntries) : Type 0 where
+-- the event is added, with its part in a batch of this moment and its report
+pub record IsEventAdded (moment : ℕ) (event : AcceptedEvent) (old new : PlacedEntries) : Type 0 where
   pub part : Part
-  pub fits : (set : RuleSet) → IsPartOf set (batch.accepted (accepted_of event)) part
+  pub fits : (set : RuleSet) → IsPartOf moment set (batch.accepted (accepted_of event)) part
   pub parts : new.parts.items ≡ old.parts.items ++ part ∷ []
   pub events : new.entries.items ≡ old.entries.items ++ entry.Accepted event ∷ []
   pub reports : trees_of new.reports.items ≡ trees_of old.reports.items ++ entry_report (Ok (accepted_of event)) ∷ []

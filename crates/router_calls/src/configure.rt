@@ -20,16 +20,17 @@ use std::alloc::Global;
 pub(crate) fn configure(
     alloc: Global,
     tables: &Tables,
+    moment: u64,
     control: Control,
     reply: Reply,
 ) -> Result<Decided, NoMemory>
     requires form { IsAllowed (control_of control) tables.now.set → IsWellFormed (control_of control) }
     requires unnamed { IsAllowed (control_of control) tables.now.set → IsUnnamed (control_of control) tables.now.duties }
     ensures answer { IfOk result (λ d. decided_of d ≡ controlled tables.now.set (control_of control) (reply_of reply)) }
-    ensures made { IfOk result (λ d. CanBeMade tables.now d) }
+    ensures made { IfOk result (λ d. CanBeMade tables.now moment d) }
 {
     read_tables(tables);
-    match Part::of_control(alloc, tables.set(), &control) {
+    match Part::of_control(alloc, tables.set(), &control, moment) {
         Ok(part) => writes(alloc, Entry::Control(control), part, reply),
         Err(fault) => {
             let cause = change_cause(alloc, &control, fault)?;

@@ -19,17 +19,18 @@ use std::alloc::Global;
 pub(crate) fn create_event_bus(
     alloc: Global,
     tables: &Tables,
+    moment: u64,
     name: &Text,
 ) -> Result<Decided, NoMemory>
     requires bus { IsBusName name.now }
     ensures answer { IfOk result (λ d. decided_of d ≡ controlled tables.now.set (bus_created name.now)
         (replies.served ((codes "EventBusArn", text (bus_arn name.now)) ∷ []))) }
-    ensures made { IfOk result (λ d. CanBeMade tables.now d) }
+    ensures made { IfOk result (λ d. CanBeMade tables.now moment d) }
 {
     let arn = bus_arn(alloc, name.as_str())?;
     let reply = text_reply(alloc, "EventBusArn", arn)?;
     let control = Control::BusCreated {
         name: name.copy(alloc)?,
     };
-    configure(alloc, tables, control, reply)
+    configure(alloc, tables, moment, control, reply)
 }

@@ -16,16 +16,21 @@ use router_core::Tables;
 use rule_table::Control;
 use std::alloc::Global;
 
-pub(crate) fn create_queue(alloc: Global, tables: &Tables, name: &Text) -> Result<Decided, NoMemory>
+pub(crate) fn create_queue(
+    alloc: Global,
+    tables: &Tables,
+    moment: u64,
+    name: &Text,
+) -> Result<Decided, NoMemory>
     requires queue { IsQueueName name.now }
     ensures answer { IfOk result (λ d. decided_of d ≡ controlled tables.now.set (queue_created name.now)
         (replies.served ((codes "QueueArn", text (queue_arn name.now)) ∷ []))) }
-    ensures made { IfOk result (λ d. CanBeMade tables.now d) }
+    ensures made { IfOk result (λ d. CanBeMade tables.now moment d) }
 {
     let arn = queue_arn(alloc, name.as_str())?;
     let reply = text_reply(alloc, "QueueArn", arn)?;
     let control = Control::QueueCreated {
         name: name.copy(alloc)?,
     };
-    configure(alloc, tables, control, reply)
+    configure(alloc, tables, moment, control, reply)
 }

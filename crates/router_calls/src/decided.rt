@@ -1,5 +1,5 @@
 //! What is decided of a request, and the batch that it becomes.
-ghost use Rattle.std.specs.Prelude.{◌≡◌, ◌≤◌, ◌∷◌, [], IfOk, IfSome};
+ghost use Rattle.std.specs.Prelude.{◌≡◌, ◌≤◌, ◌∷◌, [], ℕ, IfOk, IfSome};
 ghost use Rattle.json_text.specs.Moment.{IsMoment};
 ghost use Rattle.api_replies.specs.Reply as replies;
 ghost use Rattle.api_replies.specs.View.{reply_of};
@@ -25,7 +25,7 @@ pub(crate) struct Decided {
 /// A reply, and nothing to write.
 pub(crate) fn shown(alloc: Global, reply: Reply) -> Decided
     ensures answer { decided_of result ≡ shown (reply_of reply) }
-    ensures made { (t : TablesView) → CanBeMade t result }
+    ensures made { (t : TablesView) (moment : ℕ) → CanBeMade t moment result }
 {
     Decided {
         entries: Vec::new(alloc),
@@ -37,7 +37,7 @@ pub(crate) fn shown(alloc: Global, reply: Reply) -> Decided
 /// A refusal, and nothing to write.
 pub(crate) fn refused(alloc: Global, cause: &Cause) -> Result<Decided, NoMemory>
     ensures answer { IfOk result (λ d. decided_of d ≡ refusal cause.now) }
-    ensures made { IfOk result (λ d. (t : TablesView) → CanBeMade t d) }
+    ensures made { IfOk result (λ d. (t : TablesView) (moment : ℕ) → CanBeMade t moment d) }
 {
     Ok(shown(alloc, refused_reply(alloc, cause)?))
 }
@@ -73,7 +73,7 @@ pub(crate) fn batched(
 ) -> Result<(Option<Ready>, Reply), NoMemory>
     requires moment { IsMoment moment }
     requires later { tables.now.moment ≤ moment }
-    requires made { CanBeMade tables.now decided }
+    requires made { CanBeMade tables.now moment decided }
     ensures answer { IfOk result (λ p. answer_of p ≡ answer_at tables.now moment (decided_of decided)) }
     ensures ready { IfOk result (λ p. IfSome p.0 (λ r. IsReadyFor tables.now r)) }
 {

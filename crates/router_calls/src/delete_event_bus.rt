@@ -17,14 +17,15 @@ use std::alloc::Global;
 pub(crate) fn delete_event_bus(
     alloc: Global,
     tables: &Tables,
+    moment: u64,
     name: &Text,
 ) -> Result<Decided, NoMemory>
     requires bus { IsBusName name.now }
     ensures answer { IfOk result (λ d. decided_of d ≡ controlled tables.now.set (bus_deleted name.now) empty_reply) }
-    ensures made { IfOk result (λ d. CanBeMade tables.now d) }
+    ensures made { IfOk result (λ d. CanBeMade tables.now moment d) }
 {
     let control = Control::BusDeleted {
         name: name.copy(alloc)?,
     };
-    configure(alloc, tables, control, empty_reply(alloc))
+    configure(alloc, tables, moment, control, empty_reply(alloc))
 }

@@ -17,12 +17,13 @@ use std::alloc::Global;
 pub(crate) fn delete_messages(
     alloc: Global,
     tables: &Tables,
+    moment: u64,
     queue: &Text,
     through: u64,
 ) -> Result<Decided, NoMemory>
     requires through { through < 2 ^ 48 }
     ensures answer { IfOk result (λ d. decided_of d ≡ messages_deletion tables.now queue.now through) }
-    ensures made { IfOk result (λ d. CanBeMade tables.now d) }
+    ensures made { IfOk result (λ d. CanBeMade tables.now moment d) }
 {
     if !tables.set().queue(queue.as_str()) {
         let name = queue.copy(alloc)?;
@@ -34,7 +35,7 @@ pub(crate) fn delete_messages(
     if count == 0 {
         Ok(shown(alloc, reply))
     } else {
-        one_deletion(alloc, tables, queue, through, reply)
+        one_deletion(alloc, tables, moment, queue, through, reply)
     }
 }
 
@@ -42,6 +43,7 @@ pub(crate) fn delete_messages(
 fn one_deletion(
     alloc: Global,
     tables: &Tables,
+    moment: u64,
     queue: &Text,
     through: u64,
     reply: Reply,
@@ -49,7 +51,7 @@ fn one_deletion(
     requires through { through < 2 ^ 48 }
     requires some { 0 < length (messages_through through (messages_of queue.now tables.now.duties.queues)) }
     ensures answer { IfOk result (λ d. decided_of d ≡ writes (messages_deleted queue.now through) (reply_of reply)) }
-    ensures made { IfOk result (λ d. CanBeMade tables.now d) }
+    ensures made { IfOk result (λ d. CanBeMade tables.now moment d) }
 {
     let queue = queue.copy(alloc)?;
     writes(

@@ -15,10 +15,15 @@ use rule_table::Control;
 use std::alloc::Global;
 
 /// Deletes the queue. A queue that a target, a dead-letter setting, a pending delivery or a message names is in use.
-pub(crate) fn delete_queue(alloc: Global, tables: &Tables, name: &Text) -> Result<Decided, NoMemory>
+pub(crate) fn delete_queue(
+    alloc: Global,
+    tables: &Tables,
+    moment: u64,
+    name: &Text,
+) -> Result<Decided, NoMemory>
     requires queue { IsQueueName name.now }
     ensures answer { IfOk result (λ d. decided_of d ≡ queue_deletion tables.now name.now) }
-    ensures made { IfOk result (λ d. CanBeMade tables.now d) }
+    ensures made { IfOk result (λ d. CanBeMade tables.now moment d) }
 {
     if is_queue_named(tables, name.as_str()) {
         let name = name.copy(alloc)?;
@@ -28,7 +33,7 @@ pub(crate) fn delete_queue(alloc: Global, tables: &Tables, name: &Text) -> Resul
     let control = Control::QueueDeleted {
         name: name.copy(alloc)?,
     };
-    configure(alloc, tables, control, empty_reply(alloc))
+    configure(alloc, tables, moment, control, empty_reply(alloc))
 }
 
 /// Whether the queue exists, and a pending delivery or a message names it.

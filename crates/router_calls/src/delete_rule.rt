@@ -18,17 +18,18 @@ use std::alloc::Global;
 pub(crate) fn delete_rule(
     alloc: Global,
     tables: &Tables,
+    moment: u64,
     bus: &Text,
     name: &Text,
 ) -> Result<Decided, NoMemory>
     requires names { NamesRule bus.now name.now }
     ensures answer { IfOk result (λ d. decided_of d ≡ rule_deletion tables.now.set bus.now name.now) }
-    ensures made { IfOk result (λ d. CanBeMade tables.now d) }
+    ensures made { IfOk result (λ d. CanBeMade tables.now moment d) }
 {
     if lacks_rule(tables.set(), bus.as_str(), name.as_str()) {
         Ok(shown(alloc, empty_reply(alloc)))
     } else {
-        delete(alloc, tables, bus, name)
+        delete(alloc, tables, moment, bus, name)
     }
 }
 
@@ -40,14 +41,20 @@ fn lacks_rule(set: &RuleSet, bus: &str, name: &str) -> bool
 }
 
 /// Deletes the rule, or refuses the change.
-fn delete(alloc: Global, tables: &Tables, bus: &Text, name: &Text) -> Result<Decided, NoMemory>
+fn delete(
+    alloc: Global,
+    tables: &Tables,
+    moment: u64,
+    bus: &Text,
+    name: &Text,
+) -> Result<Decided, NoMemory>
     requires names { NamesRule bus.now name.now }
     ensures answer { IfOk result (λ d. decided_of d ≡ controlled tables.now.set (rule_deleted bus.now name.now) empty_reply) }
-    ensures made { IfOk result (λ d. CanBeMade tables.now d) }
+    ensures made { IfOk result (λ d. CanBeMade tables.now moment d) }
 {
     let control = Control::RuleDeleted {
         bus: bus.copy(alloc)?,
         name: name.copy(alloc)?,
     };
-    configure(alloc, tables, control, empty_reply(alloc))
+    configure(alloc, tables, moment, control, empty_reply(alloc))
 }

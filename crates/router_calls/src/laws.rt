@@ -39,11 +39,11 @@ pub fn a_target_gets_one_json_text()
 /// A caller other than the owner writes nothing but accepted events, each of which the policy of its bus allows.
 pub fn a_stranger_only_publishes()
     ensures { (t : Tables) (r : Request) (k : ℕ) (set : RuleSet) (a : Answer) → IsAnswer t r k set a → ¬ (r.caller ≡ owner)
-        → IsPublishedBy set r.caller (entries_in r.action) a.batch }
+        → IsPublishedBy t.set set r.caller (entries_in r.action) a.batch }
 {}
 
 /// A request writes no change of the configuration but the one that it asks for.
 pub fn only_its_request()
     ensures { (t : Tables) (r : Request) (k : ℕ) (set : RuleSet) (a : Answer) (b : Batch) (c : Control) → IsAnswer t r k set a → a.batch ≡ Some b
-        → Contains b.entries (control c) → MayMake t.set r.action c }
+        → Contains b.entries (control c) → MayMake t r.action c }
 {}

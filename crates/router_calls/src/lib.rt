@@ -2,9 +2,11 @@
 #![tactic(auto)]
 
 mod configure;
+mod create_archive;
 mod create_event_bus;
 mod create_queue;
 mod decided;
+mod delete_archive;
 mod delete_event_bus;
 mod delete_messages;
 mod delete_queue;
@@ -21,6 +23,7 @@ mod remove_permission;
 mod remove_targets;
 mod requests;
 mod test_event_pattern;
+mod update_archive;
 
 pub use laws::{
     a_stranger_only_publishes, a_target_gets_one_json_text, one_answer, only_its_request,

@@ -1,5 +1,5 @@
 //! What calls on a rule have in common: a missing rule, and items that fail one by one.
-ghost use Rattle.std.specs.Prelude.{◌≡◌, ◌<◌, None, length, codes, if◌then◌else◌, IsTrue, IsFalse, IfOk};
+ghost use Rattle.std.specs.Prelude.{◌≡◌, ◌<◌, None, length, codes, if◌then◌else◌, IsTrue, IsFalse, ℕ, IfOk};
 ghost use Rattle.json_text.specs.View.{trees_of};
 ghost use Rattle.rule_table.specs.Refusal.{IsAllowed};
 ghost use Rattle.rule_table.specs.RuleSet.{Rule as RuleView, rule_at};
@@ -31,7 +31,7 @@ pub(crate) fn no_rule(
 ) -> Result<Decided, NoMemory>
     requires missing { rule_at bus.now rule.now set.now ≡ None }
     ensures answer { IfOk result (λ d. (decide : RuleView → View) → decided_of d ≡ on_rule set.now bus.now rule.now decide) }
-    ensures made { IfOk result (λ d. (t : TablesView) → CanBeMade t d) }
+    ensures made { IfOk result (λ d. (t : TablesView) (moment : ℕ) → CanBeMade t moment d) }
 {
     if set.bus(bus.as_str()).is_some() {
         let name = rule.copy(alloc)?;
@@ -45,7 +45,7 @@ pub(crate) fn no_rule(
 /// The refusal that the bus does not exist.
 pub(crate) fn no_bus(alloc: Global, bus: &Text) -> Result<Decided, NoMemory>
     ensures answer { IfOk result (λ d. decided_of d ≡ refusal (cause_is.NotFound kind_is.EventBus bus.now)) }
-    ensures made { IfOk result (λ d. (t : TablesView) → CanBeMade t d) }
+    ensures made { IfOk result (λ d. (t : TablesView) (moment : ℕ) → CanBeMade t moment d) }
 {
     let name = bus.copy(alloc)?;
     let kind = Kind::EventBus;
@@ -64,6 +64,7 @@ pub(crate) fn are_some<T>(items: &[T]) -> bool
 pub(crate) fn change_with_reports(
     alloc: Global,
     tables: &Tables,
+    moment: u64,
     some: bool,
     control: Control,
     reports: Items,
@@ -74,11 +75,11 @@ pub(crate) fn change_with_reports(
     ensures answer { IfOk result (λ d. decided_of d ≡ (if some
         then writes (change (control_of control)) (items_reply (length reports.items) (codes "FailedEntries") (trees_of reports.items))
         else shown (items_reply (length reports.items) (codes "FailedEntries") (trees_of reports.items)))) }
-    ensures made { IfOk result (λ d. CanBeMade tables.now d) }
+    ensures made { IfOk result (λ d. CanBeMade tables.now moment d) }
 {
     let reply = items_reply(alloc, reports.len() as u64, "FailedEntries", reports)?;
     if some {
-        configure(alloc, tables, control, reply)
+        configure(alloc, tables, moment, control, reply)
     } else {
         Ok(shown(alloc, reply))
     }

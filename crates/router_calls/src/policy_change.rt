@@ -24,19 +24,20 @@ use std::alloc::Global;
 pub(crate) fn change_policy(
     alloc: Global,
     tables: &Tables,
+    moment: u64,
     bus: &Text,
     policy: Option<StoredPolicy>,
 ) -> Result<Decided, NoMemory>
     requires bus { IsBusName bus.now }
     ensures answer { IfOk result (λ d. decided_of d ≡ controlled tables.now.set (policy_put bus.now policy) empty_reply) }
-    ensures made { IfOk result (λ d. CanBeMade tables.now d) }
+    ensures made { IfOk result (λ d. CanBeMade tables.now moment d) }
 {
     read_policy(&policy);
     let control = Control::PolicyPut {
         bus: bus.copy(alloc)?,
         policy,
     };
-    configure(alloc, tables, control, empty_reply(alloc))
+    configure(alloc, tables, moment, control, empty_reply(alloc))
 }
 
 /// Reads the policy for its contract alone: a policy that is not too long has a text that is read back as itself.

@@ -3,13 +3,14 @@ ghost use Rattle.std.specs.Prelude.{◌≡◌, ◌<◌, ◌+◌, ◌^◌, ℕ, L
 ghost use Rattle.json_text.specs.Moment.{IsMoment};
 ghost use Rattle.json_text.specs.View.{tree_of};
 ghost use Rattle.event_time.specs.Time.{IsIso};
-ghost use Rattle.rule_table.specs.RuleSet.{RuleSet};
+ghost use Rattle.archive_keep.specs.Kept.{IsTextOfEvent};
+ghost use Rattle.rule_table.specs.RuleSet.{RuleSet as Set};
 ghost use Rattle.router_core.specs.Request.{put_events};
 ghost use Rattle.router_core.specs.View.{accepted_of};
 ghost use Rattle.router_core.specs.Matching.{AreSeenEntries, IsSeenEntry};
 ghost use Rattle.router_core.specs.Duties.{AreDuties};
 ghost use Rattle.router_core.specs.Bounds.{IsBounded};
-ghost use Rattle.router_calls.specs.Accepted.{entries_seen, found_of, numbered_text, numbered_tree, IsAcceptedAs, IsPlaced};
+ghost use Rattle.router_calls.specs.Accepted.{archives_kept, entries_seen, found_of, is_still_there, numbered_text, numbered_tree, IsAcceptedAs, IsPlaced};
 ghost use Rattle.router_calls.specs.Answer.{entry_report};
 ghost use Rattle.router_calls.specs.Decided.{decided_of, CanBeMade};
 ghost use Rattle.router_calls.specs.Steps.{placed_of, placed_decided, Places, AreReady, AreSeenOn, HasAccount, IsEventAdded, IsPublication, IsRefusalAdded, IsSeenOn};
@@ -21,9 +22,10 @@ use delivery_duties::NewDuty;
 use event_shape::{EntryFault, Unnumbered, event_id};
 use json_text::{Items, Json, Members, NoMemory, Text, push_member};
 use router_core::{
-    AcceptedEvent, Cause, Entry, Member, Part, Seen, SeenEntries, SeenEntry, SeenResult,
-    SeenTargets, SeenVerdict, Tables, duties_of, need_tree, push_failure,
+    AcceptedEvent, Cause, Entry, Member, Part, Seen, SeenArchive, SeenArchives, SeenEntries,
+    SeenEntry, SeenResult, SeenTargets, SeenVerdict, Tables, duties_of, need_tree, push_failure,
 };
+use rule_table::RuleSet;
 use shared_text::SharedText;
 use std::alloc::Global;
 use std::collections::VecDeque;
@@ -44,9 +46,9 @@ pub(crate) fn put_events(
     requires moment { IsMoment moment }
     requires bounded { IsBounded (put_events entries.now size) }
     requires accounts { All HasAccount entries.now }
-    requires seen { (set : RuleSet) × (caller : List ℕ) × IsSeenOn tables.now set caller (put_events entries.now size) seen.old }
-    ensures answer { IfOk result (λ d. IsPublication tables.now seen.old.k moment entries.now (entries_seen seen.old.result) size (decided_of d)) }
-    ensures made { IfOk result (λ d. CanBeMade tables.now d) }
+    requires seen { (set : Set) × (caller : List ℕ) × IsSeenOn tables.now set caller (put_events entries.now size) seen.old }
+    ensures answer { IfOk result (λ d. IsPublication tables.now seen.old.k moment entries.now (entries_seen tables.now.set seen.old.result) size (decided_of d)) }
+    ensures made { IfOk result (λ d. CanBeMade tables.now moment d) }
 {
     match &mut seen.result {
         SeenResult::Entries(found) => {
@@ -69,9 +71,9 @@ fn publish(
     requires moment { IsMoment moment }
     requires bounded { IsBounded (put_events entries.now size) }
     requires accounts { All HasAccount entries.now }
-    requires seen { (set : RuleSet) × (caller : List ℕ) × AreSeenOn tables.now set caller entries.now k found.old.items }
-    ensures answer { IfOk result (λ d. IsPublication tables.now k moment entries.now (map found_of found.old.items) size (decided_of d)) }
-    ensures made { IfOk result (λ d. CanBeMade tables.now d) }
+    requires seen { (set : Set) × (caller : List ℕ) × AreSeenOn tables.now set caller entries.now k found.old.items }
+    ensures answer { IfOk result (λ d. IsPublication tables.now k moment entries.now (map (found_of tables.now.set) found.old.items) size (decided_of d)) }
+    ensures made { IfOk result (λ d. CanBeMade tables.now moment d) }
 {
     if size > SIZE_LIMIT {
         return refused(alloc, &Cause::TooLargeTogether);
@@ -85,6 +87,7 @@ fn publish(
     };
     place_all(
         alloc,
+        tables.set(),
         entries,
         k,
         moment,
@@ -92,14 +95,19 @@ fn publish(
         tables.events() + 1,
         &mut all,
     )?;
-    reported(alloc, tables, all)
+    reported(alloc, tables, moment, all)
 }
 
-/// The events with their parts, and the reply.
-fn reported(alloc: Global, tables: &Tables, all: PlacedEntries) -> Result<Decided, NoMemory>
-    requires ready { AreReady tables.now all }
+/// The events of a batch of this moment with their parts, and the reply.
+fn reported(
+    alloc: Global,
+    tables: &Tables,
+    moment: u64,
+    all: PlacedEntries,
+) -> Result<Decided, NoMemory>
+    requires ready { AreReady tables.now moment all }
     ensures answer { IfOk result (λ d. decided_of d ≡ placed_decided all) }
-    ensures made { IfOk result (λ d. CanBeMade tables.now d) }
+    ensures made { IfOk result (λ d. CanBeMade tables.now moment d) }
 {
     let PlacedEntries {
         entries,
@@ -128,9 +136,10 @@ pub(crate) struct PlacedEntries {
     failed: u64,
 }
 
-/// Places the entries in their order, each by what was found of it. The first event gets this number.
+/// Places the entries in their order, each by what was found of it. The first event gets this number. The rule set is that of the tables.
 fn place_all(
     alloc: Global,
+    set: &RuleSet,
     entries: &[Result<Unnumbered, EntryFault>],
     k: u64,
     moment: u64,
@@ -139,22 +148,22 @@ fn place_all(
     all: &mut PlacedEntries,
 ) -> Result<(), NoMemory>
     requires moment { IsMoment moment }
-    requires seen { (set : RuleSet) × (caller : List ℕ) × AreSeenEntries set caller entries.now found.old.items }
+    requires seen { (s : Set) × (caller : List ℕ) × AreSeenEntries s caller entries.now found.old.items }
     requires number { number + length entries.now < 2 ^ 63 }
     requires failed { all.old.failed + length entries.now < 2 ^ 63 }
     ensures { OnOk result ((time : List ℕ) → IsIso moment time
-        → Places k number time entries.now (map found_of found.old.items) all.old all.new) }
+        → Places k number moment time entries.now (map (found_of set.now) found.old.items) all.old all.new) }
 {
     match entries {
         [entry, rest @ ..] => match found.pop_front() {
-            Some(seen) => match place(alloc, entry, k, moment, seen, number)? {
+            Some(seen) => match place(alloc, set, entry, k, moment, seen, number)? {
                 Ok(event) => {
-                    push_event(alloc, event, all)?;
-                    place_all(alloc, rest, k, moment, found, number + 1, all)
+                    push_event(alloc, event, moment, all)?;
+                    place_all(alloc, set, rest, k, moment, found, number + 1, all)
                 }
                 Err(cause) => {
                     push_refusal(alloc, &cause, all)?;
-                    place_all(alloc, rest, k, moment, found, number, all)
+                    place_all(alloc, set, rest, k, moment, found, number, all)
                 }
             },
             None => unreachable!(),
@@ -163,12 +172,18 @@ fn place_all(
     }
 }
 
-/// Adds the event, its part and its item.
-fn push_event(alloc: Global, event: AcceptedEvent, all: &mut PlacedEntries) -> Result<(), NoMemory>
-    ensures { OnOk result (IsEventAdded event all.old all.new) }
+/// Adds the event, its part in a batch of this moment, and its item.
+fn push_event(
+    alloc: Global,
+    event: AcceptedEvent,
+    moment: u64,
+    all: &mut PlacedEntries,
+) -> Result<(), NoMemory>
+    requires { IsTextOfEvent event.text }
+    ensures { OnOk result (IsEventAdded moment event all.old all.new) }
 {
     all.reports.push(event_json(alloc, &event)?)?;
-    all.parts.push_back(Part::of_event(alloc, &event)?)?;
+    all.parts.push_back(Part::of_event(alloc, &event, moment)?)?;
     all.entries.push(Entry::Accepted(event))?;
     Ok(())
 }
@@ -188,6 +203,7 @@ fn push_refusal(alloc: Global, cause: &Cause, all: &mut PlacedEntries) -> Result
 /// What becomes of the entry by what was found of it, if the next event gets this number.
 fn place(
     alloc: Global,
+    set: &RuleSet,
     entry: &Result<Unnumbered, EntryFault>,
     k: u64,
     moment: u64,
@@ -195,34 +211,44 @@ fn place(
     number: u64,
 ) -> Result<Result<AcceptedEvent, Cause>, NoMemory>
     requires moment { IsMoment moment }
-    requires seen { (set : RuleSet) × (caller : List ℕ) × IsSeenEntry set caller entry.now seen }
-    ensures { IfOk result (λ p. (time : List ℕ) → IsIso moment time → IsPlaced k number time entry.now (found_of seen) (placed_of p)) }
+    requires seen { (s : Set) × (caller : List ℕ) × IsSeenEntry s caller entry.now seen }
+    ensures placed { IfOk result (λ p. (time : List ℕ) → IsIso moment time → IsPlaced k number time entry.now (found_of set.now seen) (placed_of p)) }
+    ensures text { IfOk result (λ p. IfOk p (λ e. IsTextOfEvent e.text)) }
 {
-    let SeenEntry { verdict, targets } = seen;
+    let SeenEntry {
+        verdict,
+        targets,
+        archives,
+    } = seen;
     match verdict {
         SeenVerdict::Fault(fault) => Ok(Err(entry_cause(fault))),
         SeenVerdict::NoBus => Ok(Err(Cause::Parameter(Member::EventBusName))),
         SeenVerdict::DeniedBy(statement) => Ok(Err(Cause::DeniedBy { statement })),
         SeenVerdict::NotAllowed => Ok(Err(Cause::NotAllowed)),
         SeenVerdict::Allowed => match entry {
-            Ok(event) => Ok(Ok(accept(alloc, event, k, moment, targets, number)?)),
+            Ok(event) => {
+                let archives = names_there(alloc, set, archives)?;
+                Ok(Ok(accept(alloc, event, k, moment, targets, archives, number)?))
+            }
             Err(_) => unreachable!(),
         },
     }
 }
 
-/// The event with this number, and a duty for each of these targets, filled at this moment.
+/// The event with this number, kept by the archives of these names, and a duty for each of these targets, filled at this moment.
 fn accept(
     alloc: Global,
     event: &Unnumbered,
     k: u64,
     moment: u64,
     targets: SeenTargets,
+    archives: Vec<Text>,
     number: u64,
 ) -> Result<AcceptedEvent, NoMemory>
     requires { IsMoment moment }
-    ensures { IfOk result (λ e. (time : List ℕ) → IsIso moment time
-        → IsAcceptedAs k number time event.now targets.items (accepted_of e)) }
+    ensures accepted { IfOk result (λ e. (time : List ℕ) → IsIso moment time
+        → IsAcceptedAs k number time event.now targets.items archives.items (accepted_of e)) }
+    ensures text { IfOk result (λ e. IsTextOfEvent e.text) }
 {
     let text = SharedText::new(alloc, event.numbered(alloc, number)?)?;
     let duties = duties(alloc, event, number, moment, targets, &text)?;
@@ -233,8 +259,32 @@ fn accept(
         k,
         time: event.moment(),
         text,
+        archives,
         duties,
     })
+}
+
+/// The names of the archives that are still there, of those that matching found.
+fn names_there(alloc: Global, set: &RuleSet, found: SeenArchives) -> Result<Vec<Text>, NoMemory>
+    ensures { IfOk result (λ names. names.items ≡ archives_kept set.now found.items) }
+{
+    let mut names = Vec::with_capacity(alloc, found.len())?;
+    for archive in found {
+        if is_still_there(set, &archive) {
+            names.push(Text::from_str(alloc, archive.name.as_str())?)?;
+        }
+    }
+    Ok(names)
+}
+
+/// Whether the archive that matching found is still there: one of its name may have been created after it was deleted.
+fn is_still_there(set: &RuleSet, found: &SeenArchive) -> bool
+    ensures { result ≡ is_still_there set.now found.now }
+{
+    match set.archive(found.name.as_str()) {
+        Some(archive) => archive.made() == found.made,
+        None => false,
+    }
 }
 
 /// The duties of the event with this number and text. Its tree is made only if a target has a path or a template.

@@ -24,21 +24,23 @@ use std::alloc::Global;
 pub(crate) fn put_policy(
     alloc: Global,
     tables: &Tables,
+    moment: u64,
     bus: &Text,
     policy: &StoredPolicy,
 ) -> Result<Decided, NoMemory>
     requires bus { IsBusName bus.now }
     ensures answer { IfOk result (λ d. decided_of d ≡ controlled tables.now.set (policy_put bus.now (Some policy.now)) empty_reply) }
-    ensures made { IfOk result (λ d. CanBeMade tables.now d) }
+    ensures made { IfOk result (λ d. CanBeMade tables.now moment d) }
 {
     let policy = policy.share()?;
-    change_policy(alloc, tables, bus, Some(policy))
+    change_policy(alloc, tables, moment, bus, Some(policy))
 }
 
 /// Adds a statement that lets the account, or everyone, put events on the bus.
 pub(crate) fn put_statement(
     alloc: Global,
     tables: &Tables,
+    moment: u64,
     bus: &Text,
     sid: &Text,
     account: &Option<Text>,
@@ -46,11 +48,11 @@ pub(crate) fn put_statement(
     requires bus { IsBusName bus.now }
     requires account { IsAccountGiven account.now }
     ensures answer { IfOk result (λ d. IsByPolicy tables.now.set bus.now (statement_put tables.now.set bus.now sid.now account.now) (decided_of d)) }
-    ensures made { IfOk result (λ d. CanBeMade tables.now d) }
+    ensures made { IfOk result (λ d. CanBeMade tables.now moment d) }
 {
     let to = grantee(account);
     match tables.set().bus(bus.as_str()) {
-        Some(found) => put_to(alloc, tables, bus, sid, to, policy_in(found)),
+        Some(found) => put_to(alloc, tables, moment, bus, sid, to, policy_in(found)),
         None => no_bus(alloc, bus),
     }
 }
@@ -68,6 +70,7 @@ fn grantee(account: &Option<Text>) -> Grantee<'_>
 fn put_to(
     alloc: Global,
     tables: &Tables,
+    moment: u64,
     bus: &Text,
     sid: &Text,
     to: Grantee,
@@ -76,7 +79,7 @@ fn put_to(
     requires bus { IsBusName bus.now }
     requires account { IsAccountGiven (account_given to) }
     ensures answer { IfOk result (λ d. decided_of d ≡ statement_put tables.now.set bus.now sid.now (account_given to.entry) (option_copied policy.entry)) }
-    ensures made { IfOk result (λ d. CanBeMade tables.now d) }
+    ensures made { IfOk result (λ d. CanBeMade tables.now moment d) }
 {
     if has_statement(policy, sid.as_str()) {
         let sid = sid.copy(alloc)?;
@@ -84,7 +87,7 @@ fn put_to(
     }
     let policy = granted(alloc, bus.as_str(), sid.as_str(), to, policy)?;
     let policy = StoredPolicy::new(alloc, policy)?;
-    change_policy(alloc, tables, bus, Some(policy))
+    change_policy(alloc, tables, moment, bus, Some(policy))
 }
 
 /// The policy with the statement as its last, or a policy of this statement.

@@ -22,6 +22,7 @@ use std::alloc::Global;
 pub(crate) fn put_rule(
     alloc: Global,
     tables: &Tables,
+    moment: u64,
     bus: &Text,
     name: &Text,
     pattern: &SharedPattern,
@@ -30,12 +31,12 @@ pub(crate) fn put_rule(
     requires form { IsWellFormed (rule_put bus.now name.now pattern.now enabled) }
     ensures answer { IfOk result (λ d. decided_of d ≡ controlled tables.now.set (rule_put bus.now name.now pattern.now enabled)
         (replies.served ((codes "RuleArn", text (rule_arn bus.now name.now)) ∷ []))) }
-    ensures made { IfOk result (λ d. CanBeMade tables.now d) }
+    ensures made { IfOk result (λ d. CanBeMade tables.now moment d) }
 {
     let arn = rule_arn(alloc, bus.as_str(), name.as_str())?;
     let reply = text_reply(alloc, "RuleArn", arn)?;
     let control = rule_put(alloc, bus, name, pattern, enabled)?;
-    configure(alloc, tables, control, reply)
+    configure(alloc, tables, moment, control, reply)
 }
 
 /// The change that puts the rule.

@@ -17,18 +17,19 @@ use std::alloc::Global;
 pub(crate) fn put_rule_state(
     alloc: Global,
     tables: &Tables,
+    moment: u64,
     bus: &Text,
     name: &Text,
     enabled: bool,
 ) -> Result<Decided, NoMemory>
     requires names { NamesRule bus.now name.now }
     ensures answer { IfOk result (λ d. decided_of d ≡ controlled tables.now.set (state_put bus.now name.now enabled) empty_reply) }
-    ensures made { IfOk result (λ d. CanBeMade tables.now d) }
+    ensures made { IfOk result (λ d. CanBeMade tables.now moment d) }
 {
     let control = Control::StatePut {
         bus: bus.copy(alloc)?,
         name: name.copy(alloc)?,
         enabled,
     };
-    configure(alloc, tables, control, empty_reply(alloc))
+    configure(alloc, tables, moment, control, empty_reply(alloc))
 }

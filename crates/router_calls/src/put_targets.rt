@@ -23,6 +23,7 @@ use std::alloc::Global;
 pub(crate) fn put_targets(
     alloc: Global,
     tables: &Tables,
+    moment: u64,
     bus: &Text,
     rule: &Text,
     targets: &[AskedTarget],
@@ -32,10 +33,10 @@ pub(crate) fn put_targets(
     requires valid { All HasValidReads targets.now }
     ensures answer { IfOk result (λ d. decided_of d ≡ on_rule tables.now.set bus.now rule.now (λ r.
         targets_decided tables.now.set bus.now rule.now r.targets targets.now)) }
-    ensures made { IfOk result (λ d. CanBeMade tables.now d) }
+    ensures made { IfOk result (λ d. CanBeMade tables.now moment d) }
 {
     match tables.set().rule(bus.as_str(), rule.as_str()) {
-        Some(old) => put_to(alloc, tables, bus, rule, old, targets),
+        Some(old) => put_to(alloc, tables, moment, bus, rule, old, targets),
         None => no_rule(alloc, tables.set(), bus, rule),
     }
 }
@@ -44,6 +45,7 @@ pub(crate) fn put_targets(
 fn put_to(
     alloc: Global,
     tables: &Tables,
+    moment: u64,
     bus: &Text,
     rule: &Text,
     old: &Rule,
@@ -54,7 +56,7 @@ fn put_to(
     requires few { length targets.now ≤ 100 }
     requires valid { All HasValidReads targets.now }
     ensures answer { IfOk result (λ d. decided_of d ≡ targets_decided tables.now.set bus.now rule.now old.now.targets targets.now) }
-    ensures made { IfOk result (λ d. CanBeMade tables.now d) }
+    ensures made { IfOk result (λ d. CanBeMade tables.now moment d) }
 {
     let SplitTargets {
         have: _,
@@ -63,7 +65,7 @@ fn put_to(
     } = split_all(alloc, tables.set(), old.targets(), targets)?;
     let some = are_some(accepted.as_slice());
     let control = targets_put(alloc, bus, rule, accepted)?;
-    change_with_reports(alloc, tables, some, control, reports)
+    change_with_reports(alloc, tables, moment, some, control, reports)
 }
 
 /// The change that puts the targets.

@@ -21,27 +21,33 @@ use rule_table::StoredPolicy;
 use std::alloc::Global;
 
 /// Takes the bus's policy away.
-pub(crate) fn remove_policy(alloc: Global, tables: &Tables, bus: &Text) -> Result<Decided, NoMemory>
+pub(crate) fn remove_policy(
+    alloc: Global,
+    tables: &Tables,
+    moment: u64,
+    bus: &Text,
+) -> Result<Decided, NoMemory>
     requires bus { IsBusName bus.now }
     ensures answer { IfOk result (λ d. decided_of d ≡ controlled tables.now.set (policy_put bus.now None) empty_reply) }
-    ensures made { IfOk result (λ d. CanBeMade tables.now d) }
+    ensures made { IfOk result (λ d. CanBeMade tables.now moment d) }
 {
-    change_policy(alloc, tables, bus, None)
+    change_policy(alloc, tables, moment, bus, None)
 }
 
 /// Removes the statement of this StatementId from the bus's policy.
 pub(crate) fn remove_statement(
     alloc: Global,
     tables: &Tables,
+    moment: u64,
     bus: &Text,
     sid: &Option<Text>,
 ) -> Result<Decided, NoMemory>
     requires bus { IsBusName bus.now }
     ensures answer { IfOk result (λ d. IsByPolicy tables.now.set bus.now (statement_removed tables.now.set bus.now sid.now) (decided_of d)) }
-    ensures made { IfOk result (λ d. CanBeMade tables.now d) }
+    ensures made { IfOk result (λ d. CanBeMade tables.now moment d) }
 {
     match tables.set().bus(bus.as_str()) {
-        Some(found) => remove_from(alloc, tables, bus, sid, policy_in(found)),
+        Some(found) => remove_from(alloc, tables, moment, bus, sid, policy_in(found)),
         None => no_bus(alloc, bus),
     }
 }
@@ -50,16 +56,17 @@ pub(crate) fn remove_statement(
 fn remove_from(
     alloc: Global,
     tables: &Tables,
+    moment: u64,
     bus: &Text,
     sid: &Option<Text>,
     policy: Option<&Policy>,
 ) -> Result<Decided, NoMemory>
     requires bus { IsBusName bus.now }
     ensures answer { IfOk result (λ d. decided_of d ≡ statement_removed tables.now.set bus.now sid.now (option_copied policy.entry)) }
-    ensures made { IfOk result (λ d. CanBeMade tables.now d) }
+    ensures made { IfOk result (λ d. CanBeMade tables.now moment d) }
 {
     match sid {
-        Some(sid) => remove(alloc, tables, bus, sid, policy),
+        Some(sid) => remove(alloc, tables, moment, bus, sid, policy),
         None => refused(alloc, &Cause::Required(Member::StatementId)),
     }
 }
@@ -68,17 +75,18 @@ fn remove_from(
 fn remove(
     alloc: Global,
     tables: &Tables,
+    moment: u64,
     bus: &Text,
     sid: &Text,
     policy: Option<&Policy>,
 ) -> Result<Decided, NoMemory>
     requires bus { IsBusName bus.now }
     ensures answer { IfOk result (λ d. decided_of d ≡ statement_removed tables.now.set bus.now (Some sid.now) (option_copied policy.entry)) }
-    ensures made { IfOk result (λ d. CanBeMade tables.now d) }
+    ensures made { IfOk result (λ d. CanBeMade tables.now moment d) }
 {
     if has_statement(policy, sid.as_str()) {
         let left = revoked(alloc, sid.as_str(), policy)?;
-        change_policy(alloc, tables, bus, left)
+        change_policy(alloc, tables, moment, bus, left)
     } else {
         let sid = sid.copy(alloc)?;
         refused(alloc, &Cause::NoStatement { sid })

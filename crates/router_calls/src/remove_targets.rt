@@ -28,6 +28,7 @@ use std::alloc::Global;
 pub(crate) fn remove_targets(
     alloc: Global,
     tables: &Tables,
+    moment: u64,
     bus: &Text,
     rule: &Text,
     ids: &[Text],
@@ -37,10 +38,10 @@ pub(crate) fn remove_targets(
     requires ids { All IsShortName ids.now }
     ensures answer { IfOk result (λ d. decided_of d ≡ on_rule tables.now.set bus.now rule.now (λ r.
         removals_decided bus.now rule.now r.targets ids.now)) }
-    ensures made { IfOk result (λ d. CanBeMade tables.now d) }
+    ensures made { IfOk result (λ d. CanBeMade tables.now moment d) }
 {
     match tables.set().rule(bus.as_str(), rule.as_str()) {
-        Some(old) => remove_from(alloc, tables, bus, rule, old, ids),
+        Some(old) => remove_from(alloc, tables, moment, bus, rule, old, ids),
         None => no_rule(alloc, tables.set(), bus, rule),
     }
 }
@@ -49,6 +50,7 @@ pub(crate) fn remove_targets(
 fn remove_from(
     alloc: Global,
     tables: &Tables,
+    moment: u64,
     bus: &Text,
     rule: &Text,
     old: &Rule,
@@ -59,12 +61,12 @@ fn remove_from(
     requires few { length ids.now ≤ 100 }
     requires ids { All IsShortName ids.now }
     ensures answer { IfOk result (λ d. decided_of d ≡ removals_decided bus.now rule.now old.now.targets ids.now) }
-    ensures made { IfOk result (λ d. CanBeMade tables.now d) }
+    ensures made { IfOk result (λ d. CanBeMade tables.now moment d) }
 {
     let Removals { removed, reports } = remove_all(alloc, old.targets(), ids)?;
     let some = are_some(removed.as_slice());
     let control = targets_removed(alloc, bus, rule, removed)?;
-    change_with_reports(alloc, tables, some, control, reports)
+    change_with_reports(alloc, tables, moment, some, control, reports)
 }
 
 /// The change that removes the targets of these ids.

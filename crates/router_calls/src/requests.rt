@@ -14,9 +14,11 @@ ghost use Rattle.router_calls.specs.Decided.{answer_of, decided_of, CanBeMade};
 ghost use Rattle.router_calls.specs.Matched.{IsMatchedOn};
 ghost use Rattle.router_calls.specs.Steps.{HaveAccounts, IsDecidedAs, IsSeenOn};
 
+use crate::create_archive::create_archive;
 use crate::create_event_bus::create_event_bus;
 use crate::create_queue::create_queue;
 use crate::decided::{Decided, batched, shown};
+use crate::delete_archive::delete_archive;
 use crate::delete_event_bus::delete_event_bus;
 use crate::delete_messages::delete_messages;
 use crate::delete_queue::delete_queue;
@@ -29,10 +31,11 @@ use crate::put_targets::put_targets;
 use crate::remove_permission::{remove_policy, remove_statement};
 use crate::remove_targets::remove_targets;
 use crate::test_event_pattern::test_event_pattern;
+use crate::update_archive::update_archive;
 use call_replies::{duty_counts, peek_messages};
 use config_views::{
-    describe_event_bus, describe_rule, list_event_buses, list_rule_names_by_target, list_rules,
-    list_targets_by_rule,
+    describe_archive, describe_event_bus, describe_rule, list_archives, list_event_buses,
+    list_rule_names_by_target, list_rules, list_targets_by_rule,
 };
 use json_text::{NoMemory, Text};
 use router_core::{Action, Ready, Reply, Request, Seen, Tables};
@@ -78,44 +81,82 @@ fn answer(
     requires one_turn { IsOneTurn (action_of action.now) }
     requires seen { (set : RuleSet) × (caller : List ℕ) × IsSeenOn tables.now set caller (action_of action.now) seen.old }
     ensures answer { IfOk result (λ d. IsDecidedAs tables.now moment seen.old (action_of action.now) (decided_of d)) }
-    ensures made { IfOk result (λ d. CanBeMade tables.now d) }
+    ensures made { IfOk result (λ d. CanBeMade tables.now moment d) }
 {
     match action {
-        Action::CreateEventBus { name } => create_event_bus(alloc, tables, name),
-        Action::DeleteEventBus { name } => delete_event_bus(alloc, tables, name),
+        Action::CreateEventBus { name } => create_event_bus(alloc, tables, moment, name),
+        Action::DeleteEventBus { name } => delete_event_bus(alloc, tables, moment, name),
         Action::PutRule {
             bus,
             name,
             pattern,
             enabled,
-        } => put_rule(alloc, tables, bus, name, pattern, *enabled),
-        Action::DeleteRule { bus, name } => delete_rule(alloc, tables, bus, name),
+        } => put_rule(alloc, tables, moment, bus, name, pattern, *enabled),
+        Action::DeleteRule { bus, name } => delete_rule(alloc, tables, moment, bus, name),
         Action::PutRuleState { bus, name, enabled } => {
-            put_rule_state(alloc, tables, bus, name, *enabled)
+            put_rule_state(alloc, tables, moment, bus, name, *enabled)
         }
         Action::PutTargets { bus, rule, targets } => {
-            put_targets(alloc, tables, bus, rule, targets)
+            put_targets(alloc, tables, moment, bus, rule, targets)
         }
         Action::RemoveTargets { bus, rule, ids } => {
-            remove_targets(alloc, tables, bus, rule, ids)
+            remove_targets(alloc, tables, moment, bus, rule, ids)
         }
-        Action::PutPolicy { bus, policy } => put_policy(alloc, tables, bus, policy),
+        Action::PutPolicy { bus, policy } => put_policy(alloc, tables, moment, bus, policy),
         Action::PutStatement { bus, sid, account } => {
-            put_statement(alloc, tables, bus, sid, account)
+            put_statement(alloc, tables, moment, bus, sid, account)
         }
-        Action::RemovePolicy { bus } => remove_policy(alloc, tables, bus),
-        Action::RemoveStatement { bus, sid } => remove_statement(alloc, tables, bus, sid),
+        Action::RemovePolicy { bus } => remove_policy(alloc, tables, moment, bus),
+        Action::RemoveStatement { bus, sid } => remove_statement(alloc, tables, moment, bus, sid),
         Action::PutEvents { entries, size } => {
             put_events(alloc, tables, entries, *size, moment, seen)
         }
-        Action::CreateQueue { name } => create_queue(alloc, tables, name),
-        Action::DeleteQueue { name } => delete_queue(alloc, tables, name),
+        Action::CreateArchive {
+            name,
+            bus,
+            pattern,
+            days,
+        } => create_archive(alloc, tables, moment, name, bus, pattern, *days),
+        Action::UpdateArchive {
+            name,
+            pattern,
+            days,
+        } => update_archive(alloc, tables, moment, name, pattern, *days),
+        Action::DeleteArchive { name } => delete_archive(alloc, tables, moment, name),
+        Action::DescribeArchive { name } => Ok(shown(
+            alloc,
+            describe_archive(
+                alloc,
+                tables.set(),
+                tables.archives(),
+                name.as_str(),
+                moment,
+            )?,
+        )),
+        Action::ListArchives {
+            prefix,
+            source,
+            state,
+        } => Ok(shown(
+            alloc,
+            list_archives(
+                alloc,
+                tables.set(),
+                tables.archives(),
+                text_in(prefix),
+                text_in(source),
+                text_in(state),
+                moment,
+            )?,
+        )),
+        Action::CreateQueue { name } => create_queue(alloc, tables, moment, name),
+        Action::DeleteQueue { name } => delete_queue(alloc, tables, moment, name),
         Action::PeekMessages { queue, limit } => Ok(shown(
             alloc,
             peek_messages(alloc, tables.set(), tables.duties(), queue.as_str(), *limit)?,
         )),
         Action::DeleteMessages { queue, through } => {
-            delete_messages(alloc, tables, queue, *through)
+            delete_messages(alloc, tables, moment, queue, *through)
         }
         Action::DutyCounts => Ok(shown(alloc, duty_counts(alloc, tables.duties())?)),
         Action::TestEventPattern { .. } => test_event_pattern(alloc, &seen.result),

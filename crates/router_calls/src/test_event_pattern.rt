@@ -20,7 +20,7 @@ use std::alloc::Global;
 pub(crate) fn test_event_pattern(alloc: Global, found: &SeenResult) -> Result<Decided, NoMemory>
     requires { (set : RuleSet) × (caller pattern : List ℕ) × (event : Tree) × IsSeenResult set caller (test_pattern pattern event) found.now }
     ensures answer { IfOk result (λ d. decided_of d ≡ shown (tested_reply (is_tested found.now))) }
-    ensures made { IfOk result (λ d. (t : TablesView) → CanBeMade t d) }
+    ensures made { IfOk result (λ d. (t : TablesView) (moment : ℕ) → CanBeMade t moment d) }
 {
     match found {
         SeenResult::Tested(matches) => Ok(shown(alloc, tested_reply(alloc, *matches)?)),

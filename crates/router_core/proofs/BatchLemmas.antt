@@ -1,20 +1,23 @@
 -- The tables after the entries of a batch. The answers of `Tables` cite `IsLeft`, `left_all`, `left_at`, `left_end`, `left_part`, `left_room`,
--- `left_first`, `left_next`, `left_none` and `batch_kept`; the law cites `still_prepared`.
+-- `left_first`, `left_next`, `left_none`, `batch_kept` and `purge_few`; the law cites `still_prepared`.
 use Rattle.std.proofs.Common.{◌≡◌, ℕ, ◌+◌, ◌*◌, ◌^◌, ◌≤◌, inl, inr, true, false, List, [], ◌∷◌, length, max}
 use Rattle.std.proofs.Common.{◌<◌, map, drop, get_or, sym, refl, ap, subst, ◌∙◌, arith}
 use Rattle.std.specs.Prelude.{All, ◌||◌, nat_le}
 use Rattle.std.proofs.lemmas.Bool.{leb-false}
 use Rattle.std.proofs.lemmas.List.{drop_all, drop_more}
 use Rattle.std.proofs.lemmas.List.Elements.{All-head, All-tail}
+use Rattle.archive_keep.specs.Archive.{Archive}
+use Rattle.archive_keep.specs.Archives.{all_purged, name_of}
 use Rattle.rule_table.specs.RuleSet.{RuleSet}
 use Rattle.router_core.specs.Batch.{Batch, Entry, control, accepted, attempt, messages_deleted}
-use Rattle.router_core.specs.Tables.{Tables, after_entry, after_entries, after_batch, number_limit, IsConsistent}
+use Rattle.router_core.specs.Tables.{Tables, after_entry, after_entries, after_batch, number_limit, KeepsUpTo, IsConsistent}
 use Rattle.router_core.specs.Admitted.{IsNoChange, IsEntryAdmitted, AreOfOneTurn, AreAdmitted, IsAdmitted}
 use Rattle.router_core.specs.View.{batch_of, entry_of}
 use Rattle.router_core.specs.declared.batch.Entry.{Entry as CodeEntry}
 use Rattle.router_core.specs.declared.ready.Ready.{Ready}
 use Rattle.router_core.specs.Ready.{IsPartOf, ArePartsOf, IsPrepared, IsReadyFor, set_after}
 use Rattle.router_core.specs.declared.ready.Part.{Part}
+use Rattle.router_core.proofs.KeepingLemmas.{all_purged_up, few_events, names_purged}
 
 -- the rule set after an entry
 set_of : (moment : ℕ) (e : Entry) (t : Tables) → (after_entry moment e t).set ≡ set_after e t.set
@@ -28,23 +31,23 @@ one_to_ten : (entries : List Entry) → AreOfOneTurn entries → (1 ≤ length e
 one_to_ten entries (inl (e, is)) = (omega (arith, ap length is), omega (arith, ap length is))
 one_to_ten entries (inr (some, few, all)) = (some, few)
 
--- an entry adds one to the number of entries; the number of batches and the moment stay
-one_entry : (moment : ℕ) (e : Entry) (t : Tables)
-    → ((after_entry moment e t).entries ≡ t.entries + 1) × ((after_entry moment e t).batches ≡ t.batches) × ((after_entry moment e t).moment ≡ t.moment)
-one_entry moment (control c) t = (refl, refl, refl)
-one_entry moment (accepted e) t = (refl, refl, refl)
-one_entry moment (attempt duty outcome) t = (refl, refl, refl)
-one_entry moment (messages_deleted queue through) t = (refl, refl, refl)
+-- an entry adds one to the number of entries; the number of batches stays, and the moment is not after the batch's
+one_entry : (moment : ℕ) (e : Entry) (t : Tables) → t.moment ≤ moment
+    → ((after_entry moment e t).entries ≡ t.entries + 1) × ((after_entry moment e t).batches ≡ t.batches) × ((after_entry moment e t).moment ≤ moment)
+one_entry moment (control c) t le = (refl, refl, le)
+one_entry moment (accepted e) t le = (refl, refl, omega (arith, le))
+one_entry moment (attempt duty outcome) t le = (refl, refl, le)
+one_entry moment (messages_deleted queue through) t le = (refl, refl, le)
 
 -- the tables are those after some first entries of a batch; the rest of the entries and their parts are left
 pub record IsLeft (moment : ℕ) (entries rest : List Entry) (old now : Tables) (parts : List Part) : Type 0 where
-  pub own : ArePartsOf now.set rest parts
+  pub own : ArePartsOf moment now.set rest parts
   pub admitted : AreAdmitted moment rest now
   pub same : after_entries moment rest now ≡ after_entries moment entries old
   pub made : now.entries + length rest ≡ old.entries + length entries
   pub created : now.duties.created + 1500 * length rest ≤ old.duties.created + 1500 * length entries
   pub batches : now.batches ≡ old.batches
-  pub at : now.moment ≡ old.moment
+  pub at : now.moment ≤ moment
   pub fewer : old.batches ≤ old.entries
 
 -- all entries are left
@@ -57,7 +60,7 @@ left_all t r ready fewer = record {
   made = refl;
   created = omega arith;
   batches = refl;
-  at = refl;
+  at = ready.admitted.later;
   fewer = fewer;
 }
 
@@ -84,7 +87,7 @@ pub left_part : (moment : ℕ) (entries after : List Entry) (e : Entry) (old now
 left_part moment entries after e old now [] left none = left.own
 left_part moment entries after e old now (part ∷ parts) left none = absurd (cc)
 
-below_limit : (limit a b : ℕ) → (nat_le limit a || nat_le limit b) ≡ false → (a < limit) × (b < limit)
+pub below_limit : (limit a b : ℕ) → (nat_le limit a || nat_le limit b) ≡ false → (a < limit) × (b < limit)
 below_limit limit a b e =
     (elim (nat_le limit a) as (λ t. nat_le limit a ≡ t → (t || nat_le limit b) ≡ false → (a < limit) × (b < limit)) [
       | true ↦ λ _ h. absurd (cc)
@@ -102,31 +105,33 @@ left_room b after e old now parts admitted left =
 
 -- the part of the entry, which is admitted
 pub left_first : (moment : ℕ) (entries after : List Entry) (e : Entry) (old now : Tables) (part : Part) (parts : List Part)
-    → IsLeft moment entries (e ∷ after) old now (part ∷ parts) → IsPartOf now.set e part × IsEntryAdmitted moment e now
-left_first moment entries after e old now part parts left = (left.own.0, left.admitted.0)
+    → IsLeft moment entries (e ∷ after) old now (part ∷ parts) → IsPartOf moment now.set e part × IsEntryAdmitted moment e now × (now.moment ≤ moment)
+left_first moment entries after e old now part parts left = (left.own.0, left.admitted.0, left.at)
 
 pub left_next : (moment : ℕ) (entries after : List Entry) (e : Entry) (old now new : Tables) (part : Part) (parts : List Part)
     → IsLeft moment entries (e ∷ after) old now (part ∷ parts) → new ≡ after_entry moment e now → new.duties.created ≤ now.duties.created + 1500
     → IsLeft moment entries after old new parts
 left_next moment entries after e old now new part parts left is few =
-    let one = one_entry moment e now in
+    let one = one_entry moment e now left.at in
     record {
-      own = subst (λ (t : Tables). ArePartsOf t.set after parts) (sym is)
-          (subst (λ (s : RuleSet). ArePartsOf s after parts) (sym (set_of moment e now)) left.own.1);
+      own = subst (λ (t : Tables). ArePartsOf moment t.set after parts) (sym is)
+          (subst (λ (s : RuleSet). ArePartsOf moment s after parts) (sym (set_of moment e now)) left.own.1);
       admitted = subst (AreAdmitted moment after) (sym is) left.admitted.1;
       same = ap (after_entries moment after) is ∙ left.same;
       made = omega (arith, left.made, one.0, ap (λ (t : Tables). t.entries) is);
       created = omega (arith, left.created, few);
       batches = ap (λ (t : Tables). t.batches) is ∙ one.1 ∙ left.batches;
-      at = ap (λ (t : Tables). t.moment) is ∙ one.2 ∙ left.at;
+      at = omega (arith, ap (λ (t : Tables). t.moment) is, one.2);
       fewer = left.fewer;
     }
 
 -- the tables after a batch keep the bounds
-pub batch_kept : (b : Batch) (old now t : Tables) (n : ℕ) (parts : List Part) → IsAdmitted old b → IsConsistent t → t ≡ now → n ≡ old.batches
-    → IsLeft b.moment b.entries [] old now parts → IsConsistent (record t { batches = n + 1; moment = b.moment })
-batch_kept b old now t n parts admitted was same is left =
+pub batch_kept : (b : Batch) (old now t : Tables) (n : ℕ) (archives : List Archive) (parts : List Part) → IsAdmitted old b → IsConsistent t → t ≡ now
+    → n ≡ old.batches → archives ≡ all_purged b.moment t.archives → IsLeft b.moment b.entries [] old now parts
+    → IsConsistent (record t { archives = archives; batches = n + 1; moment = b.moment })
+batch_kept b old now t n archives parts admitted was same is left_so left =
     let many = one_to_ten b.entries admitted.one_turn in
+    let le : t.moment ≤ b.moment = omega (arith, left.at, ap (λ (s : Tables). s.moment) same) in
     record {
       queues = was.queues;
       moment = admitted.moment;
@@ -135,20 +140,29 @@ batch_kept b old now t n parts admitted was same is left =
       batches = omega (arith, ap (λ (s : Tables). s.entries) same, left.made, many.0, left.fewer, is);
       entries = was.entries;
       created = was.created;
+      archives = ap (map name_of) left_so ∙ names_purged b.moment t.archives ∙ was.archives;
+      kept = subst (All (KeepsUpTo t.events b.moment)) (sym left_so) (all_purged_up t.events t.moment b.moment b.moment t.archives le was.kept);
     }
 
 max_later : (a b : ℕ) → a ≤ b → max a b ≡ b
 max_later a b le = omega (arith, le)
 
 -- the tables are those after the batch
-pub left_none : (b : Batch) (old now t : Tables) (n : ℕ) (parts : List Part) → IsAdmitted old b → t ≡ now → n ≡ old.batches
-    → IsLeft b.moment b.entries [] old now parts → record t { batches = n + 1; moment = b.moment } ≡ after_batch b old
-left_none b old now t n parts admitted same is left =
+pub left_none : (b : Batch) (old now t : Tables) (n : ℕ) (archives : List Archive) (parts : List Part) → IsAdmitted old b → t ≡ now → n ≡ old.batches
+    → archives ≡ all_purged b.moment t.archives → IsLeft b.moment b.entries [] old now parts
+    → record t { archives = archives; batches = n + 1; moment = b.moment } ≡ after_batch b old
+left_none b old now t n archives parts admitted same is left_so left =
     let all : now ≡ after_entries b.moment b.entries old = left.same in
-    ap (λ (k : ℕ). record t { batches = k + 1; moment = b.moment }) is
-    ∙ ap (λ (s : Tables). record s { batches = old.batches + 1; moment = b.moment }) (same ∙ all)
-    ∙ ap (λ (m : ℕ). record (after_entries b.moment b.entries old) { batches = old.batches + 1; moment = m })
+    let done = after_entries b.moment b.entries old in
+    ap (λ (rows : List Archive). record t { archives = rows; batches = n + 1; moment = b.moment }) left_so
+    ∙ ap (λ (k : ℕ). record t { archives = all_purged b.moment t.archives; batches = k + 1; moment = b.moment }) is
+    ∙ ap (λ (s : Tables). record s { archives = all_purged b.moment s.archives; batches = old.batches + 1; moment = b.moment }) (same ∙ all)
+    ∙ ap (λ (m : ℕ). record done { archives = all_purged b.moment done.archives; batches = old.batches + 1; moment = m })
     (sym (max_later old.moment b.moment admitted.later))
+
+-- what a purge of consistent tables asks for
+pub purge_few : (t : Tables) → IsConsistent t → (events : ℕ) × (events < 2 ^ 49) × All (λ (a : Archive). length a.events ≤ events) t.archives
+purge_few t was = (t.events, omega (arith, was.events, was.entries), few_events t.events t.moment t.archives was.kept)
 
 same_set : (moment : ℕ) (e : Entry) (t : Tables) → IsNoChange e → (after_entry moment e t).set ≡ t.set
 same_set moment (control c) t none = absurd none
@@ -164,4 +178,4 @@ same_set_all moment (e ∷ es) t all =
 -- what is prepared stays so while the configuration does not change
 pub still_prepared : (t : Tables) (r : Ready) (b : Batch) → All IsNoChange b.entries → IsPrepared t r → IsPrepared (after_batch b t) r
 still_prepared t r b all prepared =
-    subst (λ (s : RuleSet). ArePartsOf s (batch_of r.batch).entries r.parts.items) (sym (same_set_all b.moment b.entries t all)) prepared
+    subst (λ (s : RuleSet). ArePartsOf r.batch.moment s (batch_of r.batch).entries r.parts.items) (sym (same_set_all b.moment b.entries t all)) prepared

@@ -14,6 +14,7 @@ use Rattle.pattern_read.specs.contracts.shared_pattern.SharedPattern as shared_p
 use Rattle.bus_policy.specs.contracts.policy.Policy as policy
 use Rattle.name_rows.proofs.rows.Rows.TheSendSync as rows
 use Rattle.shared_text.proofs.row.TargetRow.TheSendSync as target_row
+use Rattle.shared_text.proofs.text.SharedText.TheSendSync as shared_text
 use Rattle.shared_text.specs.contracts.row.SharedRow as shared_row
 use Rattle.rule_targets.proofs.shared_input.ReadInput.TheSendSync as read_input
 use Rattle.rule_targets.specs.contracts.shared_input.SharedInput as shared_input
@@ -22,6 +23,7 @@ use Rattle.rule_table.specs.contracts.rule.Rule as rule
 use Rattle.rule_table.specs.contracts.policy.SharedPolicy as shared
 use Rattle.rule_table.specs.contracts.policy.StoredPolicy as stored
 use Rattle.rule_table.specs.contracts.bus.Bus as bus
+use Rattle.rule_table.specs.contracts.archive_row.ArchiveRow as archive
 use Rattle.rule_table.specs.contracts.rule_set.RuleSet as rule_set
 
 pattern_send : IsSend pattern.the_row
@@ -101,8 +103,14 @@ bus_send = search (sendable, crosses, text.the_send, rule_send, rule_sync, share
 bus_sync : IsSync bus.the_row
 bus_sync = search (sendable, crosses, text.the_sync, rule_send, rule_sync, shared_sync, rows.the_sync) depth 20
 
+archive_send : IsSend archive.the_row
+archive_send = search (sendable, crosses, shared_text.the_send, shared_pattern_send) depth 20
+
+archive_sync : IsSync archive.the_row
+archive_sync = search (sendable, crosses, shared_text.the_sync, shared_pattern_sync) depth 20
+
 pub set_send : IsSend rule_set.the_row
-set_send = search (sendable, crosses, text.the_send, text.the_sync, bus_send, bus_sync, rows.the_send) depth 20
+set_send = search (sendable, crosses, text.the_send, text.the_sync, bus_send, bus_sync, archive_send, archive_sync, rows.the_send) depth 20
 
 pub set_sync : IsSync rule_set.the_row
-set_sync = search (sendable, crosses, text.the_send, text.the_sync, bus_send, bus_sync, rows.the_sync) depth 20
+set_sync = search (sendable, crosses, text.the_send, text.the_sync, bus_send, bus_sync, archive_send, archive_sync, rows.the_sync) depth 20

@@ -10,6 +10,7 @@
 -- `Snapshot` is `Send`.
 -- A law that another crate's proof needs is a lemma of a `pub mod`; a law function alone cannot be cited. `counts()` gives a caller
 -- `ordered`.
+mod KeepingLemmas
 mod TablesLemmas
 mod BatchLemmas
 mod ClaimLemmas
@@ -17,5 +18,6 @@ mod SettleLemmas
 pub mod MatchingLemmas
 pub mod DutyLemmas
 pub mod OnceLemmas
+pub mod SeenArchiveLemmas
 pub mod CrossingLemmas
 pub mod MovingLemmas

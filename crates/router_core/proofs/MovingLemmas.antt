@@ -8,6 +8,10 @@ use Rattle.http_server.proofs.log.Log.TheSendSync as log
 use Rattle.json_text.proofs.base.Text.TheSendSync as text
 use Rattle.key_tree.proofs.subtree.Subtree.TheLaws.TheKnot as tree
 use Rattle.key_tree.specs.contracts.node.Node as node
+use Rattle.archive_keep.proofs.event_ref.KeptEvent.TheSendSync as kept
+use Rattle.archive_keep.specs.contracts.event_ref.EventRef as event
+use Rattle.archive_keep.specs.contracts.archive.Archive as archive
+use Rattle.archive_keep.specs.contracts.archives.Archives as archives
 use Rattle.delivery_queues.proofs.stored.StoredMessage.TheSendSync as message
 use Rattle.delivery_duties.proofs.duty.DutyRow.TheSendSync as row
 use Rattle.delivery_duties.specs.contracts.owed.Owed as owed
@@ -50,8 +54,17 @@ queues_send = search (sendable, crosses, queue_send) depth 20
 duties_send : IsSend duties.the_row
 duties_send = search (sendable, schedule_send, history_send, queues_send) depth 20
 
+event_send : IsSend event.the_row
+event_send = search (sendable, crosses, kept.the_send, kept.the_sync) depth 20
+
+archive_send : IsSend archive.the_row
+archive_send = search (sendable, crosses, list.the_send, text.the_send, event_send) depth 20
+
+archives_send : IsSend archives.the_row
+archives_send = search (sendable, crosses, archive_send) depth 20
+
 pub tables_send : IsSend tables.the_row
-tables_send = search (sendable, set_send, duties_send) depth 20
+tables_send = search (sendable, set_send, duties_send, archives_send) depth 20
 
 control_send : IsSend control.the_field.row
 control_send = search (sendable, crosses, text.the_send, shared_pattern_send, stored_policy_send, target.the_send) depth 20

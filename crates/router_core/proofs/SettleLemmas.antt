@@ -1,6 +1,8 @@
--- An attempt of a duty that is claimed for it alone is one of the free duty. The answers of `Tables::settle_at` cite `settled_at` and `fate_at`.
-use Rattle.std.proofs.Common.{◌≡◌, ◌≢◌, ℕ, ◌+◌, ◌≤◌, true, false, cond, ltb, List, [], ◌∷◌, Option, Some, None, max}
-use Rattle.std.proofs.Common.{refl, sym, ap, ◌∙◌, subst, arith}
+-- An attempt of a duty that is claimed for it alone is one of the free duty. The answers of `Tables::settle_at` cite `settled_at` and `fate_at`,
+-- those of `Tables::finish` `attempted`, and both `with_attempt`.
+use Rattle.std.proofs.Common.{◌≡◌, ◌≢◌, ℕ, ◌+◌, ◌≤◌, true, false, cond, ltb, List, [], ◌∷◌, ◌++◌, Option, Some, None, max}
+use Rattle.std.proofs.Common.{refl, sym, ap, ◌∙◌, subst, arith, map}
+use Rattle.std.specs.Prelude.{All}
 use Rattle.std.proofs.lemmas.Bool.{ne_eqb, eq-eqb}
 use Rattle.key_tree.specs.Entries.{value_at, placed, without, AllKeys}
 use Rattle.key_tree.proofs.EntryLemmas.{others, value_at-placed, value_at-without_same, without_none}
@@ -12,9 +14,18 @@ use Rattle.delivery_duties.specs.declared.verdict.Verdict.TheVariants.{Deliver, 
 use Rattle.delivery_queues.specs.declared.failure.Failure.{Failure}
 use Rattle.delivery_duties.specs.Retry.{Attempt, after_attempt, dead_letter_queue, fate_of, state_by, verdict_of, waits}
 use Rattle.delivery_duties.specs.Duties.{Duties, attempt_of, claimed, failed, marked_row, pending_row, replaced, settled, settled_by, settled_row}
-use Rattle.router_core.specs.Tables.{Tables, after_batch}
+use Rattle.archive_keep.specs.Archive.{Archive}
+use Rattle.archive_keep.specs.Archives.{all_purged, name_of}
+use Rattle.delivery_queues.specs.Queues.{Queue}
+use Rattle.router_core.specs.Tables.{Tables, after_batch, number_limit, KeepsUpTo, IsConsistent}
+use Rattle.router_core.proofs.KeepingLemmas.{all_purged_up, names_purged}
+use Rattle.router_core.proofs.BatchLemmas.{below_limit}
 use Rattle.router_core.specs.Admitted.{IsAdmitted}
+use Rattle.router_core.specs.Batch as batch
+use Rattle.router_core.specs.View.{entry_of}
 use Rattle.router_core.specs.Steps.{fate_after, record_of}
+use Rattle.router_core.specs.declared.batch.Entry.{Entry as CodeEntry}
+use Rattle.router_core.specs.declared.batch.Entry.TheVariants as code_entry
 
 -- a row that was put among others that lack its key is taken out
 gone : (key : ℕ) (row : DutyRow) (rows : List (ℕ × DutyRow)) → AllKeys (λ k. k ≢ key) rows → without key (placed (key, row) rows) ≡ rows
@@ -69,17 +80,62 @@ settled_claimed s n moment outcome row there named =
 max_later : (a b : ℕ) → a ≤ b → max a b ≡ b
 max_later a b le = omega (arith, le)
 
-pub settled_at : (t now : Tables) (n moment : ℕ) (outcome : Outcome) (mid new : Duties) (row : DutyRow) → t ≡ now → IsAdmitted now (record_of moment n outcome) →
-    pending_row n now.duties ≡ Some row → row.number ≡ n → mid ≡ claimed n t.duties → new ≡ settled n moment outcome mid →
-    record t { duties = new; entries = t.entries + 1; batches = t.batches + 1; moment = moment } ≡ after_batch (record_of moment n outcome) now
-settled_at t now n moment outcome mid new row same admitted there named first last =
-    let is : new ≡ settled n moment outcome t.duties =
-    last ∙ ap (settled n moment outcome) first
-    ∙ settled_claimed t.duties n moment outcome row (subst (λ (s : Tables). pending_row n s.duties ≡ Some row) (sym same) there) named in
-    ap (λ (d : Duties). record t { duties = d; entries = t.entries + 1; batches = t.batches + 1; moment = moment }) is
-    ∙ ap (λ (s : Tables). record s { duties = settled n moment outcome s.duties; entries = s.entries + 1; batches = s.batches + 1; moment = moment }) same
-    ∙ ap (λ (m : ℕ). record now { duties = settled n moment outcome now.duties; entries = now.entries + 1; batches = now.batches + 1; moment = m })
-    (sym (max_later now.moment moment admitted.later))
+-- the tables after a batch of one attempt
+pub attempted : (t now : Tables) (n moment : ℕ) (outcome : Outcome) (new : Duties) (archives : List Archive) → t ≡ now → IsAdmitted now (record_of moment n outcome)
+    → new ≡ settled n moment outcome t.duties → archives ≡ all_purged moment t.archives
+    → record t { duties = new; archives = archives; entries = t.entries + 1; batches = t.batches + 1; moment = moment } ≡ after_batch (record_of moment n outcome) now
+attempted t now n moment outcome new archives same admitted is left =
+    ap (λ (d : Duties). record t { duties = d; archives = archives; entries = t.entries + 1; batches = t.batches + 1; moment = moment }) is
+    ∙ ap (λ (rows : List Archive). record t {
+      duties = settled n moment outcome t.duties;
+      archives = rows;
+      entries = t.entries + 1;
+      batches = t.batches + 1;
+      moment = moment;
+    }) left
+    ∙ ap (λ (s : Tables). record s {
+      duties = settled n moment outcome s.duties;
+      archives = all_purged moment s.archives;
+      entries = s.entries + 1;
+      batches = s.batches + 1;
+      moment = moment;
+    }) same
+    ∙ ap (λ (m : ℕ). record now {
+      duties = settled n moment outcome now.duties;
+      archives = all_purged moment now.archives;
+      entries = now.entries + 1;
+      batches = now.batches + 1;
+      moment = m;
+    }) (sym (max_later now.moment moment admitted.later))
+
+pub settled_at : (t now : Tables) (n moment : ℕ) (outcome : Outcome) (mid new : Duties) (archives : List Archive) (row : DutyRow) → t ≡ now
+    → IsAdmitted now (record_of moment n outcome) → pending_row n now.duties ≡ Some row → row.number ≡ n → mid ≡ claimed n t.duties
+    → new ≡ settled n moment outcome mid → archives ≡ all_purged moment t.archives
+    → record t { duties = new; archives = archives; entries = t.entries + 1; batches = t.batches + 1; moment = moment } ≡ after_batch (record_of moment n outcome) now
+settled_at t now n moment outcome mid new archives row same admitted there named first last left =
+    attempted t now n moment outcome new archives same admitted
+    (last ∙ ap (settled n moment outcome) first
+    ∙ settled_claimed t.duties n moment outcome row (subst (λ (s : Tables). pending_row n s.duties ≡ Some row) (sym same) there) named) left
+
+-- an attempt keeps tables consistent
+pub with_attempt : (t now : Tables) (n moment : ℕ) (outcome : Outcome) (new : Duties) (archives : List Archive) → t ≡ now
+    → IsAdmitted now (record_of moment n outcome) → map (λ (m : Queue). m.name) new.queues ≡ map (λ (m : Queue). m.name) t.duties.queues
+    → new.created ≡ t.duties.created → archives ≡ all_purged moment t.archives → IsConsistent t
+    → IsConsistent (record t { duties = new; archives = archives; entries = t.entries + 1; batches = t.batches + 1; moment = moment })
+with_attempt t now n moment outcome new archives same admitted names made left was =
+    let below = below_limit number_limit now.entries now.duties.created admitted.numbered in
+    let le : t.moment ≤ moment = omega (arith, admitted.later, ap (λ (s : Tables). s.moment) same) in
+    record {
+      queues = names ∙ was.queues;
+      moment = admitted.moment;
+      count = omega (arith, was.count);
+      events = omega (arith, was.events);
+      batches = omega (arith, was.batches);
+      entries = omega (arith, below.0, ap (λ (s : Tables). s.entries) same);
+      created = omega (arith, was.created, made);
+      archives = ap (map name_of) left ∙ names_purged moment t.archives ∙ was.archives;
+      kept = subst (All (KeepsUpTo t.events moment)) (sym left) (all_purged_up t.events t.moment moment moment t.archives le was.kept);
+    }
 
 same_fate : (row : DutyRow) (attempt : Attempt) (v : Verdict) → fate_of (state_by (marked row) attempt v) ≡ fate_of (state_by row attempt v)
 same_fate row attempt Deliver = refl
@@ -99,3 +155,24 @@ fate_at t now n moment outcome mid fate row own same there named first found own
     ∙ same_fate row (attempt_of row moment outcome t.duties) (verdict_of row moment outcome)
     ∙ ap (λ (s : Tables). fate_after s.duties.queues moment row outcome) same
     ∙ ap (λ (r : DutyRow). fate_after now.duties.queues moment r outcome) one
+
+-- the outcome that is taken off a batch of one attempt is the one that it records
+pub last_is : (items front : List CodeEntry) (n duty : ℕ) (popped ended : Outcome) → items ≡ front ++ code_entry.Attempt duty popped ∷ []
+    → map entry_of items ≡ batch.attempt n ended ∷ [] → popped ≡ ended
+last_is items [] n duty popped ended parts only =
+    let one : batch.attempt duty popped ∷ [] ≡ batch.attempt n ended ∷ [] = sym (ap (map entry_of) parts) ∙ only in
+    cc
+last_is items (x ∷ []) n duty popped ended parts only =
+    let two : entry_of x ∷ batch.attempt duty popped ∷ [] ≡ batch.attempt n ended ∷ [] = sym (ap (map entry_of) parts) ∙ only in
+    absurd (cc)
+last_is items (x ∷ y ∷ front) n duty popped ended parts only =
+    let more : entry_of x ∷ entry_of y ∷ map entry_of (front ++ code_entry.Attempt duty popped ∷ []) ≡ batch.attempt n ended ∷ [] = sym (ap (map entry_of) parts) ∙ only in
+    absurd (cc)
+
+-- a claim changes no queue and makes no duty
+pub claimed_kept : (n : ℕ) (s : Duties) → ((claimed n s).queues ≡ s.queues) × ((claimed n s).created ≡ s.created)
+claimed_kept n s = by_row (pending_row n s)
+  where
+    by_row : (o : Option DutyRow) → ((marked_row true o s).queues ≡ s.queues) × ((marked_row true o s).created ≡ s.created)
+    by_row None = (refl, refl)
+    by_row (Some row) = (refl, refl)

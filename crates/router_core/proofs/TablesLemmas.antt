@@ -1,8 +1,9 @@
--- The tables after one entry of a batch, by its part. The answers of `Tables` cite `change_part`, `event_part`, `deletion_part`, `room_for`,
--- `with_change`, `with_event`, `with_deletion`, `changed`, `change_created` and `published`.
+-- The tables after one entry of a batch, by its part. The answers of `Tables` cite `change_part`, `event_part`, `event_few`, `deletion_part`,
+-- `room_for`, `archive_room`, `can_keep`, `duties_by`, `created_after`, `has_changed`, `has_published`, `with_change`, `with_event`,
+-- `with_deletion`, `changed` and `published`.
 use Rattle.std.proofs.Common.{◌≡◌, ℕ, ◌+◌, ◌^◌, ◌<◌, ◌≤◌, true, false, cond, List, [], ◌∷◌, length}
-use Rattle.std.proofs.Common.{map, Option, Some, None, sym, refl, ap, subst, ◌∙◌, arith}
-use Rattle.std.specs.Prelude.{bytes_eq, IfSome}
+use Rattle.std.proofs.Common.{map, max, Option, Some, None, sym, refl, ap, subst, ◌∙◌, arith}
+use Rattle.std.specs.Prelude.{All, bytes_eq, IfSome, IsTrue}
 use Rattle.std.specs.declared.cmp.Ordering.TheVariants.{Less, Equal, Greater}
 use Rattle.std.proofs.Common.{is_eq}
 use Rattle.std.specs.Cmp.Lexicographic.{slice_cmp}
@@ -10,20 +11,27 @@ use Rattle.std.specs.Ordering.{nat_cmp}
 use Rattle.std.proofs.lemmas.Slice.Eq.{bytes_eq-Decides}
 use Rattle.std.proofs.lemmas.List.{length-map}
 use Rattle.std.proofs.lemmas.Map.Text.{is_eq-slice_cmp}
-use Rattle.name_rows.specs.Rows.{by_order}
+use Rattle.json_text.specs.Moment.{IsMoment}
+use Rattle.name_rows.specs.Rows.{AreSorted, by_order}
+use Rattle.archive_keep.specs.declared.event_ref.KeptEvent.{KeptEvent}
+use Rattle.archive_keep.specs.Archive.{Archive}
+use Rattle.archive_keep.specs.Archives.{most_archives, name_of}
 use Rattle.rule_table.specs.Control.{Control, bus_created, bus_deleted, rule_put, rule_deleted, state_put, targets_put, targets_removed, policy_put}
-use Rattle.rule_table.specs.Control.{queue_created, queue_deleted}
+use Rattle.rule_table.specs.Control.{queue_created, queue_deleted, archive_created, archive_updated, archive_deleted}
 use Rattle.rule_table.specs.RuleSet.{RuleSet, put_queue, without_queue, applied}
 use Rattle.rule_table.specs.Refusal.{IsAllowed}
-use Rattle.rule_table.proofs.AllowedLemmas.{queue_new}
+use Rattle.rule_table.specs.WellFormed.{is_well_formed}
+use Rattle.rule_table.proofs.AllowedLemmas.{queue_new, archive_new}
 use Rattle.delivery_duties.specs.declared.duty.NewDuty.{NewDuty}
 use Rattle.delivery_queues.specs.Queues.{Queue, with_queue, without_queue as less_queue}
 use Rattle.delivery_duties.specs.Duties.{Duties, added, with_deleted}
-use Rattle.router_core.specs.Batch.{Entry, control, accepted, attempt, messages_deleted}
-use Rattle.router_core.specs.Tables.{Tables, duties_after, after_entry, number_limit, IsConsistent}
-use Rattle.router_core.specs.Admitted.{IsEntryAdmitted}
-use Rattle.router_core.specs.Parts.{deleted_by, deleted_in, with_created, with_forgotten, with_set, with_duties}
-use Rattle.router_core.specs.Ready.{HasPlace, IsPartOf}
+use Rattle.router_core.specs.Batch.{Accepted, Entry, control, accepted, attempt, messages_deleted}
+use Rattle.router_core.specs.Tables.{Tables, duties_after, archives_after, kept_event, kept_by, after_entry, number_limit, KeepsUpTo, IsConsistent}
+use Rattle.router_core.specs.Admitted.{IsEventAdmitted, IsEntryAdmitted}
+use Rattle.router_core.specs.Keeping.{CanKeep}
+use Rattle.router_core.specs.Parts.{deleted_by, with_created, with_forgotten}
+use Rattle.router_core.specs.Ready.{HasPlace, AreKeptAs, IsPartOf}
+use Rattle.router_core.proofs.KeepingLemmas.{row_name, archives_changed, all_kept, names_kept}
 use Rattle.router_core.specs.declared.ready.Part.TheVariants.{Configuration, Event, Nothing}
 
 -- the names of the queues after one is created
@@ -54,28 +62,35 @@ names_without name (m ∷ ms) =
     ]
 
 -- the part of a change is that of a change
-pub change_part : (moment : ℕ) (e : Entry) (t : Tables) (set : RuleSet) (created deleted : Option (List ℕ)) → IsPartOf t.set e (Configuration set created)
-    → IsEntryAdmitted moment e t → deleted ≡ deleted_in e
-    → (c : Control) × (set ≡ applied c t.set) × HasPlace c created × (deleted ≡ deleted_by c) × IsAllowed c t.set
-change_part moment (control c) t set created deleted (new, place) (form, allowed, unnamed) gone = (c, new, place, gone, allowed)
-change_part moment (accepted e) t set created deleted none admitted gone = absurd none
-change_part moment (attempt duty outcome) t set created deleted none admitted gone = absurd none
-change_part moment (messages_deleted queue through) t set created deleted none admitted gone = absurd none
+pub change_part : (moment : ℕ) (e : Entry) (set new : RuleSet) (queue : Option (List ℕ)) (archive : Option Archive)
+    → IsPartOf moment set e (Configuration new queue archive) → (c : Control) × (e ≡ control c)
+change_part moment (control c) set new queue archive part = (c, refl)
+change_part moment (accepted e) set new queue archive none = absurd none
+change_part moment (attempt duty outcome) set new queue archive none = absurd none
+change_part moment (messages_deleted queue through) set new place archive none = absurd none
 
 -- the part of an event is that of an event
-pub event_part : (moment : ℕ) (e : Entry) (t : Tables) (duties : List NewDuty) → IsPartOf t.set e (Event duties)
+pub event_part : (moment : ℕ) (e : Entry) (set : RuleSet) (duties : List NewDuty) (kept : List KeptEvent) → IsPartOf moment set e (Event duties kept)
+    → (event : Accepted) × (e ≡ accepted event)
+event_part moment (control c) set duties kept none = absurd none
+event_part moment (accepted e) set duties kept part = (e, refl)
+event_part moment (attempt duty outcome) set duties kept none = absurd none
+event_part moment (messages_deleted queue through) set duties kept none = absurd none
+
+-- an event has few duties
+pub event_few : (moment : ℕ) (e : Entry) (t : Tables) (duties : List NewDuty) (kept : List KeptEvent) → IsPartOf moment t.set e (Event duties kept)
     → IsEntryAdmitted moment e t → length duties ≤ 1500
-event_part moment (control c) t duties none admitted = absurd none
-event_part moment (accepted e) t duties same admitted = subst (λ (ds : List NewDuty). length ds ≤ 1500) (sym same) admitted.few
-event_part moment (attempt duty outcome) t duties none admitted = absurd none
-event_part moment (messages_deleted queue through) t duties none admitted = absurd none
+event_few moment (control c) t duties kept none admitted = absurd none
+event_few moment (accepted e) t duties kept part admitted = subst (λ (ds : List NewDuty). length ds ≤ 1500) (sym part.0) admitted.few
+event_few moment (attempt duty outcome) t duties kept none admitted = absurd none
+event_few moment (messages_deleted queue through) t duties kept none admitted = absurd none
 
 -- a part that is nothing is that of a deletion of messages
-pub deletion_part : (e : Entry) (set : RuleSet) → IsPartOf set e Nothing → (queue : List ℕ) × (through : ℕ) × (e ≡ messages_deleted queue through)
-deletion_part (control c) set none = absurd none
-deletion_part (accepted e) set none = absurd none
-deletion_part (attempt duty outcome) set none = absurd none
-deletion_part (messages_deleted queue through) set part = (queue, through, refl)
+pub deletion_part : (moment : ℕ) (e : Entry) (set : RuleSet) → IsPartOf moment set e Nothing → (queue : List ℕ) × (through : ℕ) × (e ≡ messages_deleted queue through)
+deletion_part moment (control c) set none = absurd none
+deletion_part moment (accepted e) set none = absurd none
+deletion_part moment (attempt duty outcome) set none = absurd none
+deletion_part moment (messages_deleted queue through) set part = (queue, through, refl)
 
 both : {created other deleted removed : Option (List ℕ)} (duties : Duties) → created ≡ other → deleted ≡ removed
     → with_forgotten deleted (with_created created duties) ≡ with_forgotten removed (with_created other duties)
@@ -84,7 +99,7 @@ both {created} {other} {deleted} {removed} duties e f =
     ∙ ap (λ (q : Option (List ℕ)). with_forgotten q (with_created other duties)) f
 
 -- the duties after a change, by the queue that it creates and the one that it deletes
-duties_by : (c : Control) (created deleted : Option (List ℕ)) (duties : Duties) → HasPlace c created → deleted ≡ deleted_by c
+pub duties_by : (c : Control) (created deleted : Option (List ℕ)) (duties : Duties) → HasPlace c created → deleted ≡ deleted_by c
     → with_forgotten deleted (with_created created duties) ≡ duties_after c duties
 duties_by (bus_created name) created deleted duties place gone = both duties place gone
 duties_by (bus_deleted name) created deleted duties place gone = both duties place gone
@@ -96,6 +111,9 @@ duties_by (targets_removed bus rule ids) created deleted duties place gone = bot
 duties_by (policy_put bus policy) created deleted duties place gone = both duties place gone
 duties_by (queue_created name) created deleted duties place gone = both duties place gone
 duties_by (queue_deleted name) created deleted duties place gone = both duties place gone
+duties_by (archive_created name bus pattern days) created deleted duties place gone = both duties place gone
+duties_by (archive_updated name pattern days) created deleted duties place gone = both duties place gone
+duties_by (archive_deleted name) created deleted duties place gone = both duties place gone
 
 -- what a change keeps: the queues are those of the rule set, no duty is made, and the rule set counts the change
 record IsKept (c : Control) (set : RuleSet) (duties : Duties) : Type 0 where
@@ -114,6 +132,9 @@ kept (targets_removed bus rule ids) set duties same = record { queues = same; cr
 kept (policy_put bus policy) set duties same = record { queues = same; created = refl; count = refl }
 kept (queue_created name) set duties same = record { queues = names_with name duties.queues ∙ ap (put_queue name) same; created = refl; count = refl }
 kept (queue_deleted name) set duties same = record { queues = names_without name duties.queues ∙ ap (without_queue name) same; created = refl; count = refl }
+kept (archive_created name bus pattern days) set duties same = record { queues = same; created = refl; count = refl }
+kept (archive_updated name pattern days) set duties same = record { queues = same; created = refl; count = refl }
+kept (archive_deleted name) set duties same = record { queues = same; created = refl; count = refl }
 
 queue_fits : (c : Control) (queue : Option (List ℕ)) (t : Tables) (name : List ℕ) → HasPlace c queue → IsAllowed c t.set
     → map (λ (m : Queue). m.name) t.duties.queues ≡ t.set.queues → queue ≡ Some name → length t.duties.queues < 1000
@@ -128,6 +149,9 @@ queue_fits (policy_put bus policy) queue t name place allowed same is = cc
 queue_fits (queue_created n) queue t name place allowed same is =
     omega (arith, queue_new n t.set allowed, ap length same, length-map t.duties.queues (λ (m : Queue). m.name))
 queue_fits (queue_deleted n) queue t name place allowed same is = cc
+queue_fits (archive_created n bus pattern days) queue t name place allowed same is = cc
+queue_fits (archive_updated n pattern days) queue t name place allowed same is = cc
+queue_fits (archive_deleted n) queue t name place allowed same is = cc
 
 -- a created queue finds room
 pub room_for : (c : Control) (queue : Option (List ℕ)) (t now : Tables) → t ≡ now → HasPlace c queue → IsAllowed c now.set
@@ -136,64 +160,153 @@ room_for c None t now same place allowed are = tt
 room_for c (Some name) t now same place allowed are =
     queue_fits c (Some name) t name place (subst (λ (s : Tables). IsAllowed c s.set) (sym same) allowed) are refl
 
+-- a created archive finds room
+pub archive_room : (c : Control) (t now : Tables) → t ≡ now → IsAllowed c now.set → IsConsistent t
+    → (name bus : List ℕ) (pattern : Option (List ℕ)) (days : ℕ) → c ≡ archive_created name bus pattern days → length t.archives < most_archives
+archive_room c t now same allowed was name bus pattern days is =
+    let own = subst (λ x. IsAllowed x t.set) is (subst (λ (s : Tables). IsAllowed c s.set) (sym same) allowed) in
+    omega (
+      arith,
+      (archive_new name bus pattern days t.set own).1,
+      ap (length {A = List ℕ}) was.archives,
+      length-map t.archives name_of,
+      length-map t.set.archives row_name,
+    )
+
+-- what a change makes of the tables
+pub record HasChanged (c : Control) (moment : ℕ) (t now : Tables) (set : RuleSet) (duties : Duties) (archives : List Archive) : Type 0 where
+  pub own : set ≡ applied c t.set
+  pub all : duties ≡ duties_after c t.duties
+  pub kept : archives ≡ archives_after c moment t.archives
+
+pub has_changed : (c : Control) (moment : ℕ) (created deleted : Option (List ℕ)) (t now : Tables) (set : RuleSet) (middle duties : Duties) (archives : List Archive)
+    → t ≡ now → set ≡ applied c now.set → HasPlace c created → deleted ≡ deleted_by c → middle ≡ with_created created t.duties
+    → duties ≡ with_forgotten deleted middle → archives ≡ archives_after c moment t.archives → HasChanged c moment t now set duties archives
+has_changed c moment created deleted t now set middle duties archives same new place gone first last kept = record {
+  own = new ∙ ap (λ (s : Tables). applied c s.set) (sym same);
+  all = last ∙ ap (with_forgotten deleted) first ∙ duties_by c created deleted t.duties place gone;
+  kept = kept;
+}
+
 -- a change keeps tables consistent
-pub with_change : (c : Control) (created deleted : Option (List ℕ)) (t now : Tables) (set : RuleSet) (middle duties : Duties) → t ≡ now
-    → set ≡ applied c now.set → HasPlace c created → deleted ≡ deleted_by c → middle ≡ with_created created t.duties
-    → duties ≡ with_forgotten deleted middle → IsConsistent t → now.entries + 1 < number_limit + 2 ^ 20
-    → IsConsistent (record t { set = set; duties = duties; entries = t.entries + 1 })
-with_change c created deleted t now set middle duties same new place gone first last was room =
-    let own : set ≡ applied c t.set = new ∙ ap (λ (s : Tables). applied c s.set) (sym same) in
-    let all : duties ≡ duties_after c t.duties = last ∙ ap (with_forgotten deleted) first ∙ duties_by c created deleted t.duties place gone in
+pub with_change : (c : Control) (moment : ℕ) (t now : Tables) (set : RuleSet) (duties : Duties) (archives : List Archive) → t ≡ now
+    → HasChanged c moment t now set duties archives → IsTrue (is_well_formed c) → IsConsistent t → now.entries + 1 < number_limit + 2 ^ 20
+    → IsConsistent (record t { set = set; duties = duties; archives = archives; entries = t.entries + 1 })
+with_change c moment t now set duties archives same h formed was room =
     let k = kept c t.set t.duties was.queues in
+    let a = archives_changed c t.set moment t.events t.moment t.archives was.archives was.kept formed in
     record {
-      queues = ap (λ (d : Duties). map (λ (m : Queue). m.name) d.queues) all ∙ k.queues ∙ sym (ap (λ (s : RuleSet). s.queues) own);
+      queues = ap (λ (d : Duties). map (λ (m : Queue). m.name) d.queues) h.all ∙ k.queues ∙ sym (ap (λ (s : RuleSet). s.queues) h.own);
       moment = was.moment;
-      count = omega (arith, was.count, k.count, ap (λ (s : RuleSet). s.count) own);
+      count = omega (arith, was.count, k.count, ap (λ (s : RuleSet). s.count) h.own);
       events = omega (arith, was.events);
       batches = omega (arith, was.batches);
       entries = omega (arith, room, ap (λ (s : Tables). s.entries) same);
-      created = omega (arith, was.created, k.created, ap (λ (d : Duties). d.created) all);
+      created = omega (arith, was.created, k.created, ap (λ (d : Duties). d.created) h.all);
+      archives = ap (map name_of) h.kept ∙ a.names ∙ sym (ap (λ (s : RuleSet). map row_name s.archives) h.own);
+      kept = subst (All (KeepsUpTo t.events t.moment)) (sym h.kept) a.up;
     }
 
--- the tables after a change, by its part
-pub changed : (moment : ℕ) (set : RuleSet) (created deleted : Option (List ℕ)) (t : Tables) (e : Entry) → IsPartOf t.set e (Configuration set created)
-    → deleted ≡ deleted_in e → with_set set created deleted t ≡ after_entry moment e t
-changed moment set created deleted t (control c) (new, place) gone =
-    ap (λ (s : RuleSet). with_set s created deleted t) new
-    ∙ ap (λ (d : Duties). record t { set = applied c t.set; duties = d; entries = t.entries + 1 }) (duties_by c created deleted t.duties place gone)
-changed moment set created deleted t (accepted e) none gone = absurd none
-changed moment set created deleted t (attempt duty outcome) none gone = absurd none
-changed moment set created deleted t (messages_deleted queue through) none gone = absurd none
+-- the tables after a change
+pub changed : (c : Control) (moment : ℕ) (t now : Tables) (set : RuleSet) (duties : Duties) (archives : List Archive) → t ≡ now
+    → HasChanged c moment t now set duties archives
+    → record t { set = set; duties = duties; archives = archives; entries = t.entries + 1 } ≡ after_entry moment (control c) now
+changed c moment t now set duties archives same h =
+    ap (λ (s : RuleSet). record t { set = s; duties = duties; archives = archives; entries = t.entries + 1 }) h.own
+    ∙ ap (λ (d : Duties). record t { set = applied c t.set; duties = d; archives = archives; entries = t.entries + 1 }) h.all
+    ∙ ap (λ (rows : List Archive). record t { set = applied c t.set; duties = duties_after c t.duties; archives = rows; entries = t.entries + 1 }) h.kept
+    ∙ ap (after_entry moment (control c)) same
 
 -- a change makes no duty
-pub change_created : (set : RuleSet) (created deleted : Option (List ℕ)) (t : Tables) → (with_set set created deleted t).duties.created ≡ t.duties.created
-change_created set None None t = refl
-change_created set None (Some name) t = refl
-change_created set (Some name) None t = refl
-change_created set (Some name) (Some other) t = refl
+pub created_after : (c : Control) (duties : Duties) → (duties_after c duties).created ≡ duties.created
+created_after (bus_created name) duties = refl
+created_after (bus_deleted name) duties = refl
+created_after (rule_put bus name pattern enabled) duties = refl
+created_after (rule_deleted bus name) duties = refl
+created_after (state_put bus name enabled) duties = refl
+created_after (targets_put bus rule targets) duties = refl
+created_after (targets_removed bus rule ids) duties = refl
+created_after (policy_put bus policy) duties = refl
+created_after (queue_created name) duties = refl
+created_after (queue_deleted name) duties = refl
+created_after (archive_created name bus pattern days) duties = refl
+created_after (archive_updated name pattern days) duties = refl
+created_after (archive_deleted name) duties = refl
+
+-- the records of an event can be kept
+pub can_keep : (moment : ℕ) (e : Accepted) (t now : Tables) (names : List (List ℕ)) (records : List KeptEvent) → t ≡ now → names ≡ e.archives
+    → AreKeptAs moment e records → IsEventAdmitted now e → now.moment ≤ moment → IsConsistent t → CanKeep names t.archives records
+can_keep moment e t now names records same named_so part admitted later was =
+    let own = subst (λ (s : Tables). IsEventAdmitted s e) (sym same) admitted in
+    record {
+      event = kept_event moment e;
+      events = t.events;
+      before = t.moment;
+      each = part.each;
+      number = part.number ∙ ap (length {A = List ℕ}) (sym named_so);
+      sorted = subst (AreSorted (λ (n : List ℕ). n)) (sym named_so) own.archive_order;
+      earlier = was.kept;
+      next = record {
+        number = own.number;
+        later = omega (arith, later, ap (λ (s : Tables). s.moment) same);
+        bound = omega (arith, was.events, was.entries);
+      };
+    }
+
+-- what an event makes of the tables
+pub record HasPublished (e : Accepted) (moment : ℕ) (t now : Tables) (duties : Duties) (archives : List Archive) : Type 0 where
+  pub duties_so : duties ≡ added e.duties moment t.duties
+  pub kept : archives ≡ kept_by e.archives (kept_event moment e) t.archives
+  pub admitted : IsEventAdmitted t e
+  pub later : t.moment ≤ moment
+
+pub has_published : (e : Accepted) (moment : ℕ) (t now : Tables) (own : List NewDuty) (records : List KeptEvent) (names : List (List ℕ)) (duties : Duties)
+    (archives : List Archive) → t ≡ now → (own ≡ e.duties) × AreKeptAs moment e records → names ≡ e.archives → duties ≡ added own moment t.duties
+    → ((k : KeptEvent) → All (λ r. r ≡ k) records → archives ≡ kept_by names k t.archives) → IsEventAdmitted now e → now.moment ≤ moment
+    → HasPublished e moment t now duties archives
+has_published e moment t now own records names duties archives same part named_so made kept admitted later = record {
+  duties_so = made ∙ ap (λ (ds : List NewDuty). added ds moment t.duties) part.0;
+  kept = kept (kept_event moment e) part.1.each ∙ ap (λ ns. kept_by ns (kept_event moment e) t.archives) named_so;
+  admitted = subst (λ (s : Tables). IsEventAdmitted s e) (sym same) admitted;
+  later = omega (arith, later, ap (λ (s : Tables). s.moment) same);
+}
 
 -- an event keeps tables consistent
-pub with_event : (t now : Tables) (duties : Duties) (count : ℕ) → t ≡ now
+pub with_event : (e : Accepted) (moment : ℕ) (t now : Tables) (duties : Duties) (archives : List Archive) (count : ℕ) → t ≡ now
     → map (λ (m : Queue). m.name) duties.queues ≡ map (λ (m : Queue). m.name) t.duties.queues → duties.created ≡ t.duties.created + count
+    → HasPublished e moment t now duties archives → IsMoment moment
     → IsConsistent t → now.entries + 1 < number_limit + 2 ^ 20 → now.duties.created + count < number_limit + 2 ^ 20
-    → IsConsistent (record t { duties = duties; events = t.events + 1; entries = t.entries + 1 })
-with_event t now duties count same names made was room few = record {
+    → IsConsistent (record t { duties = duties; archives = archives; events = t.events + 1; entries = t.entries + 1; moment = moment })
+with_event e moment t now duties archives count same names made h valid was room few = record {
   queues = names ∙ was.queues;
-  moment = was.moment;
+  moment = valid;
   count = omega (arith, was.count);
   events = omega (arith, was.events);
   batches = omega (arith, was.batches);
   entries = omega (arith, room, ap (λ (s : Tables). s.entries) same);
   created = omega (arith, few, made, ap (λ (s : Tables). s.duties.created) same);
+  archives = ap (map name_of) h.kept ∙ names_kept e.archives (kept_event moment e) t.archives ∙ was.archives;
+  kept = subst (All (KeepsUpTo (t.events + 1) moment)) (sym h.kept)
+      (all_kept e.archives (kept_event moment e) t.archives t.events t.moment h.admitted.archive_order was.kept h.admitted.number h.later);
 }
 
--- the tables after an event, by its part
-pub published : (moment : ℕ) (duties : List NewDuty) (t : Tables) (e : Entry) → IsPartOf t.set e (Event duties)
-    → with_duties (added duties moment t.duties) t ≡ after_entry moment e t
-published moment duties t (control c) none = absurd none
-published moment duties t (accepted e) same = ap (λ (ds : List NewDuty). with_duties (added ds moment t.duties) t) same
-published moment duties t (attempt duty outcome) none = absurd none
-published moment duties t (messages_deleted queue through) none = absurd none
+max_later : (a b : ℕ) → a ≤ b → b ≡ max a b
+max_later a b le = omega (arith, le)
+
+-- the tables after an event
+pub published : (e : Accepted) (moment : ℕ) (t now : Tables) (duties : Duties) (archives : List Archive) → t ≡ now → HasPublished e moment t now duties archives
+    → record t { duties = duties; archives = archives; events = t.events + 1; entries = t.entries + 1; moment = moment } ≡ after_entry moment (accepted e) now
+published e moment t now duties archives same h =
+    ap (λ (d : Duties). record t { duties = d; archives = archives; events = t.events + 1; entries = t.entries + 1; moment = moment }) h.duties_so
+    ∙ ap (λ (rows : List Archive). record t { duties = added e.duties moment t.duties; archives = rows; events = t.events + 1; entries = t.entries + 1; moment = moment }) h.kept
+    ∙ ap (λ (m : ℕ). record t {
+      duties = added e.duties moment t.duties;
+      archives = kept_by e.archives (kept_event moment e) t.archives;
+      events = t.events + 1;
+      entries = t.entries + 1;
+      moment = m;
+    }) (max_later t.moment moment h.later)
+    ∙ ap (after_entry moment (accepted e)) same
 
 -- a deletion of messages keeps tables consistent
 pub with_deletion : (t now : Tables) (duties : Duties) (queue : List ℕ) (through : ℕ) → t ≡ now
@@ -207,4 +320,6 @@ with_deletion t now duties queue through same names is was room = record {
   batches = omega (arith, was.batches);
   entries = omega (arith, room, ap (λ (s : Tables). s.entries) same);
   created = omega (arith, was.created, ap (λ (d : Duties). d.created) is);
+  archives = was.archives;
+  kept = was.kept;
 }

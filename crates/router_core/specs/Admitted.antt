@@ -5,7 +5,9 @@ use Rattle.json_text.specs.Limits.{most_text}
 use Rattle.json_text.specs.Moment.{IsMoment}
 use Rattle.event_shape.specs.Names.{IsBusName, IsQueueArn, is_account}
 use Rattle.event_shape.specs.Event.{Event, IsEventText}
+use Rattle.name_rows.specs.Rows.{AreSorted}
 use Rattle.rule_table.specs.Control.{Control, queue_deleted}
+use Rattle.rule_table.specs.RuleSet.{has_archive}
 use Rattle.rule_table.specs.Refusal.{IsAllowed}
 use Rattle.rule_table.specs.WellFormed.{IsWellFormed}
 use Rattle.delivery_duties.specs.declared.duty.DutyRow.{DutyRow}
@@ -27,7 +29,7 @@ pub record IsTextAdmitted (bytes : List ℕ) : Type 0 where
   pub account : IsTrue (is_account event.account)
 
 -- The next event: its number follows, its bus has a bus's name, its configuration version is known, its text is an event's
--- (`IsTextAdmitted`), and it has at most 1,500 duties (five targets of each of 300 rules), each with a text of at most 1,048,576 bytes.
+-- (`IsTextAdmitted`), its archives exist, each named once and in byte order, and it has at most 1,500 duties (five targets of each of 300 rules), each with a text of at most 1,048,576 bytes.
 -- Shown by: proofs alone.
 pub record IsEventAdmitted (t : Tables) (e : AcceptedEvent) : Type 0 where
   pub number : e.number ≡ t.events + 1
@@ -35,6 +37,8 @@ pub record IsEventAdmitted (t : Tables) (e : AcceptedEvent) : Type 0 where
   pub known : e.k ≤ t.set.count
   pub time : IsMoment e.time
   pub text : IsTextAdmitted e.text
+  pub archive_order : AreSorted (λ name. name) e.archives
+  pub archives : All (λ name. has_archive name t.set ≡ true) e.archives
   pub few : length e.duties ≤ 1500
   pub short : All (λ (duty : NewDuty). length duty.text ≤ most_text) e.duties
 

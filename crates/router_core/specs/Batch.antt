@@ -4,8 +4,8 @@ use Rattle.delivery_duties.specs.declared.duty.NewDuty.{NewDuty}
 use Rattle.delivery_duties.specs.declared.outcome.Outcome.{Outcome}
 use Rattle.rule_table.specs.Control.{Control}
 
--- An accepted event: its number, its bus, the configuration version `k` that it was matched on, the moment of its `time`, its text and its
--- duties.
+-- An accepted event: its number, its bus, the configuration version `k` that it was matched on, the moment of its `time`, its text, the
+-- names of the archives that keep it, and its duties.
 -- Shown by: first-run.
 pub record Accepted : Type 0 where
   pub number : ℕ
@@ -13,6 +13,7 @@ pub record Accepted : Type 0 where
   pub k : ℕ
   pub time : ℕ
   pub text : List ℕ
+  pub archives : List (List ℕ)
   pub duties : List NewDuty
 
 -- One operation of a batch: a configuration change, an accepted event, the outcome of an attempt of a duty, or the deletion of a queue's

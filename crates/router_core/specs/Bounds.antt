@@ -1,15 +1,15 @@
 -- The bounds of a request: outside them it has no answer. What a change of the configuration has to be by itself is `IsWellFormed`.
-use Rattle.std.specs.Prelude.{◌≡◌, ◌≤◌, ◌<◌, ◌^◌, ℕ, List, length, Option, Some, None, Result, Ok, Err, All}
+use Rattle.std.specs.Prelude.{◌≡◌, ◌≤◌, ◌<◌, ◌^◌, ℕ, List, length, Option, Some, None, unwrap_or, Result, Ok, Err, All}
 use Rattle.json_text.specs.Tree.{Tree}
 use Rattle.json_text.specs.Compact.{IsValue, compact_text}
-use Rattle.event_shape.specs.Names.{IsBusName, IsQueueName}
+use Rattle.event_shape.specs.Names.{IsArchiveName, IsBusName, IsQueueName}
 use Rattle.event_shape.specs.Unnumbered.{Unnumbered}
 use Rattle.event_shape.specs.declared.entry.EntryFault.{EntryFault}
 use Rattle.bus_policy.specs.Stored.{IsStored}
 use Rattle.bus_policy.specs.Change.{IsAccountGiven}
 use Rattle.bus_policy.specs.StatementId.{IsStatementId}
 use Rattle.rule_table.specs.Control.{bus_created, bus_deleted, rule_put, rule_deleted, state_put, targets_removed, policy_put, queue_created}
-use Rattle.rule_table.specs.Control.{queue_deleted}
+use Rattle.rule_table.specs.Control.{queue_deleted, archive_created, archive_updated, archive_deleted}
 use Rattle.rule_targets.specs.Target.{HasValidReads}
 use Rattle.rule_targets.specs.Checks.{IsTargetArn}
 use Rattle.rule_table.specs.WellFormed.{IsWellFormed, IsSomePattern}
@@ -17,6 +17,7 @@ use Rattle.rule_targets.specs.WellFormed.{NamesRule}
 use Rattle.router_core.specs.Request.{Action, create_event_bus, delete_event_bus, describe_event_bus, list_event_buses, put_rule, delete_rule}
 use Rattle.router_core.specs.Request.{put_rule_state, describe_rule, list_rules, put_targets, remove_targets, list_targets_by_rule}
 use Rattle.router_core.specs.Request.{list_rule_names_by_target, put_policy, put_statement, remove_policy, remove_statement, put_events}
+use Rattle.router_core.specs.Request.{create_archive, update_archive, delete_archive, describe_archive, list_archives}
 use Rattle.router_core.specs.Request.{test_event_pattern, create_queue, delete_queue, peek_messages, delete_messages, duty_counts, deliver_due}
 
 -- An entry without a fault is for a bus name.
@@ -31,7 +32,7 @@ abbrev pub IsStatementIdIfGiven : Option (List ℕ) → Type 0
 IsStatementIdIfGiven None = Unit {0}
 IsStatementIdIfGiven (Some sid) = IsStatementId sid
 
--- The names of buses, rules and queues have their syntax, and so have a TargetArn, a StatementId and the ids of a RemoveTargets. The
+-- The names of buses, rules, archives and queues have their syntax, and so have a TargetArn, a StatementId and the ids of a RemoveTargets. The
 -- members of a target are checked later, target by target; what was read of its input is valid. As in the Amazon EventBridge API Reference, a PutTargets has 1 to 100 targets, a
 -- RemoveTargets 1 to 100 ids, a PutEvents 1 to 10 entries, each for a bus name or faulty. By this project's own rule, a PeekMessages shows
 -- 1 to 1,000 messages, a DeleteMessages deletes those up to a number below 2 ^ 48, a DeliverDue makes 1 to 1,000 steps. A PutRule has a
@@ -58,6 +59,11 @@ IsBounded (remove_policy bus) = IsWellFormed (policy_put bus None)
 IsBounded (remove_statement bus sid) = IsBusName bus × IsStatementIdIfGiven sid
 IsBounded (put_events entries size) = (1 ≤ length entries) × (length entries ≤ 10) × All IsForBus entries
 IsBounded (test_event_pattern pattern event) = IsSomePattern pattern × IsValue event
+IsBounded (create_archive name bus pattern days) = IsWellFormed (archive_created name bus pattern days)
+IsBounded (update_archive name pattern days) = IsWellFormed (archive_updated name pattern (unwrap_or days 0))
+IsBounded (delete_archive name) = IsWellFormed (archive_deleted name)
+IsBounded (describe_archive name) = IsArchiveName name
+IsBounded (list_archives prefix source state) = Unit {0}
 IsBounded (create_queue name) = IsWellFormed (queue_created name)
 IsBounded (delete_queue name) = IsWellFormed (queue_deleted name)
 IsBounded (peek_messages queue limit) = IsQueueName queue × (1 ≤ limit) × (limit ≤ 1000)

@@ -8,5 +8,6 @@ pub mod Verdict
 pub mod Matching
 pub mod Duties
 pub mod Parts
+pub mod Keeping
 pub mod Ready
 pub mod Steps

@@ -1,5 +1,5 @@
--- Which rules match an event.
-use Rattle.std.specs.Prelude.{◌≡◌, ℕ, ◌⊎◌, Bool, true, false, List, [], ◌∷◌, ◌++◌, map, None, Result, Ok}
+-- Which rules match an event, and which archives keep it.
+use Rattle.std.specs.Prelude.{◌≡◌, ℕ, ◌⊎◌, Bool, true, false, List, [], ◌∷◌, ◌++◌, map, Option, Some, None, Result, Ok}
 use Rattle.json_text.specs.Tree.{Tree}
 use Rattle.json_text.specs.Compact.{IsValue}
 use Rattle.event_shape.specs.Event.{event_tree}
@@ -9,11 +9,12 @@ use Rattle.pattern_meaning.specs.Pattern.{Pattern}
 use Rattle.pattern_meaning.specs.Holds.{PatternHolds}
 use Rattle.pattern_read.specs.Text.{IsPatternText}
 use Rattle.rule_targets.specs.declared.target.Target.{Target}
-use Rattle.rule_table.specs.RuleSet.{Rule, RuleSet, rules_of}
+use Rattle.rule_table.specs.RuleSet.{Archive, Rule, RuleSet, archives_of, rules_of}
 use Rattle.rule_table.specs.Target.{row_of}
 use Rattle.router_core.specs.Request.{Action, Request, put_events, test_event_pattern}
 use Rattle.router_core.specs.Verdict.{IsEntryVerdict}
 use Rattle.router_core.specs.declared.seen.SeenTarget.{SeenTarget}
+use Rattle.router_core.specs.declared.seen.SeenArchive.{SeenArchive}
 use Rattle.router_core.specs.declared.seen.SeenVerdict.{SeenVerdict}
 use Rattle.router_core.specs.declared.seen.SeenVerdict.TheVariants.{Allowed}
 use Rattle.router_core.specs.declared.seen.SeenEntry.{SeenEntry}
@@ -53,17 +54,53 @@ abbrev pub AreMatchedFor : RuleSet → Unnumbered → List SeenTarget → Type 0
 AreMatchedFor set event targets =
     (number : ℕ) → AreMatched (rules_of event.bus set) (event_tree (with_number number event.event) None) targets
 
+-- there is no pattern, or it matches the event
+abbrev pub MatchesIfGiven : Option (List ℕ) → Tree → Type 0
+MatchesIfGiven None event = Unit {0}
+MatchesIfGiven (Some text) event = TextMatches text event
+
+-- The archive keeps the event: it has no pattern, or its pattern matches.
+-- Shown by: proofs alone.
+abbrev pub Keeps : Archive → Tree → Type 0
+Keeps archive event = MatchesIfGiven archive.pattern event
+
+-- An archive as matching finds it: its name, and the configuration version after its creation.
+-- Shown by: proofs alone.
+abbrev pub seen_archive : Archive → SeenArchive
+seen_archive archive = record { name = archive.name; made = archive.made }
+
+-- The archives that keep the event, in the order of the rule set.
+-- Shown by: proofs alone.
+abbrev pub AreKeeping : List Archive → Tree → List SeenArchive → Type 0
+AreKeeping [] event seen = seen ≡ []
+AreKeeping (archive ∷ archives) event seen =
+    (rest : List SeenArchive) × AreKeeping archives event rest
+    × ((Keeps archive event × (seen ≡ seen_archive archive ∷ rest)) ⊎ ((¬ Keeps archive event) × (seen ≡ rest)))
+
+-- The archives of its bus that keep an event which has no number yet, whatever number it gets.
+-- Shown by: proofs alone.
+abbrev pub AreKeepingFor : RuleSet → Unnumbered → List SeenArchive → Type 0
+AreKeepingFor set event seen =
+    (number : ℕ) → AreKeeping (archives_of event.bus set) (event_tree (with_number number event.event) None) seen
+
 -- An allowed event has the targets that match it; any other entry has none.
 -- Shown by: tables router_core.rows: a_policy_decides_who_publishes.
 abbrev pub AreTargetsOf : RuleSet → Result Unnumbered EntryFault → SeenVerdict → List SeenTarget → Type 0
 AreTargetsOf set (Ok event) Allowed targets = AreMatchedFor set event targets
 AreTargetsOf set entry verdict targets = targets ≡ []
 
--- The result of matching an entry of a caller: its verdict and its targets.
+-- An allowed event has the archives that keep it; any other entry has none.
+-- Shown by: proofs alone.
+abbrev pub AreArchivesOf : RuleSet → Result Unnumbered EntryFault → SeenVerdict → List SeenArchive → Type 0
+AreArchivesOf set (Ok event) Allowed archives = AreKeepingFor set event archives
+AreArchivesOf set entry verdict archives = archives ≡ []
+
+-- The result of matching an entry of a caller: its verdict, its targets and its archives.
 -- Shown by: tables router_core.rows: a_policy_decides_who_publishes.
 pub record IsSeenEntry (set : RuleSet) (caller : List ℕ) (entry : Result Unnumbered EntryFault) (seen : SeenEntry) : Type 0 where
   pub verdict : IsEntryVerdict set caller entry seen.verdict
   pub targets : AreTargetsOf set entry seen.verdict seen.targets.items
+  pub archives : AreArchivesOf set entry seen.verdict seen.archives.items
 
 -- The results of matching entries, one each, in their order.
 -- Shown by: tables router_core.rows: the_targets_of_the_rules_that_match_are_seen.

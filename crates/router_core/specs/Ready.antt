@@ -1,9 +1,11 @@
 -- A batch that is ready to be applied: beside it is one part for each entry, with all memory that applying the entry needs.
-use Rattle.std.specs.Prelude.{◌≡◌, ℕ, List, [], ◌∷◌, Option, Some, None}
-use Rattle.rule_table.specs.Control.{Control, queue_created}
+use Rattle.std.specs.Prelude.{◌≡◌, ℕ, List, [], ◌∷◌, length, All, Option, Some, None}
+use Rattle.archive_keep.specs.declared.event_ref.KeptEvent.{KeptEvent}
+use Rattle.archive_keep.specs.Archive.{Archive, empty_archive}
+use Rattle.rule_table.specs.Control.{Control, queue_created, archive_created}
 use Rattle.rule_table.specs.RuleSet.{RuleSet, applied}
-use Rattle.router_core.specs.Batch.{Entry, control, accepted, attempt, messages_deleted}
-use Rattle.router_core.specs.Tables.{Tables}
+use Rattle.router_core.specs.Batch.{Accepted, Entry, control, accepted, attempt, messages_deleted}
+use Rattle.router_core.specs.Tables.{Tables, kept_event}
 use Rattle.router_core.specs.Admitted.{IsAdmitted}
 use Rattle.router_core.specs.View.{batch_of}
 use Rattle.router_core.specs.declared.ready.Part.{Part}
@@ -16,14 +18,28 @@ abbrev pub HasPlace : Control → Option (List ℕ) → Type 0
 HasPlace (queue_created name) new_queue = new_queue ≡ Some name
 HasPlace _ new_queue = new_queue ≡ None
 
--- What applying an operation needs, made on a rule set: the rule set after a change, with its new queue; rows for an event's duties; or
--- nothing for deleted messages. It holds no number, count or place that is read from the tables.
+-- A change that creates an archive comes with that archive, without events and created at the moment, and any other with none.
+-- Shown by: proofs alone.
+abbrev pub HasArchive : Control → ℕ → Option Archive → Type 0
+HasArchive (archive_created name bus pattern days) moment new_archive = new_archive ≡ Some (empty_archive name days moment)
+HasArchive _ moment new_archive = new_archive ≡ None
+
+-- The records are those of an event that is accepted at the moment, one for each of its archives.
+-- Shown by: proofs alone.
+pub record AreKeptAs (moment : ℕ) (e : Accepted) (records : List KeptEvent) : Type 0 where
+  pub each : All (λ k. k ≡ kept_event moment e) records
+  pub number : length records ≡ length e.archives
+
+-- What applying an operation of a batch of this moment needs, made on a rule set: the rule set after a change, with its new queue and its new
+-- archive; rows for an event's duties and records for its archives; or nothing for deleted messages. It holds no number, count or place that
+-- is read from the tables.
 -- Shown by: law a_prepared_batch_stays_prepared.
-abbrev pub IsPartOf : RuleSet → Entry → Part → Type 0
-IsPartOf set (control c) (Configuration new_set new_queue) = (new_set ≡ applied c set) × HasPlace c new_queue
-IsPartOf set (accepted e) (Event duties) = duties ≡ e.duties
-IsPartOf set (messages_deleted queue through) Nothing = Unit {0}
-IsPartOf set entry part = ⊥
+abbrev pub IsPartOf : ℕ → RuleSet → Entry → Part → Type 0
+IsPartOf moment set (control c) (Configuration new_set new_queue new_archive) =
+    (new_set ≡ applied c set) × HasPlace c new_queue × HasArchive c moment new_archive
+IsPartOf moment set (accepted e) (Event duties kept) = (duties ≡ e.duties) × AreKeptAs moment e kept
+IsPartOf moment set (messages_deleted queue through) Nothing = Unit {0}
+IsPartOf moment set entry part = ⊥
 
 -- The rule set after an operation.
 -- Shown by: law a_prepared_batch_stays_prepared.
@@ -35,23 +51,24 @@ set_after (messages_deleted queue through) set = set
 
 -- One part for each operation, on the rule set after the operations before it.
 -- Shown by: law a_prepared_batch_stays_prepared.
-abbrev pub ArePartsOf : RuleSet → List Entry → List Part → Type 0
-ArePartsOf set [] parts = parts ≡ []
-ArePartsOf set (e ∷ es) [] = ⊥
-ArePartsOf set (e ∷ es) (part ∷ parts) = IsPartOf set e part × ArePartsOf (set_after e set) es parts
+abbrev pub ArePartsOf : ℕ → RuleSet → List Entry → List Part → Type 0
+ArePartsOf moment set [] parts = parts ≡ []
+ArePartsOf moment set (e ∷ es) [] = ⊥
+ArePartsOf moment set (e ∷ es) (part ∷ parts) = IsPartOf moment set e part × ArePartsOf moment (set_after e set) es parts
 
 -- The parts of a ready batch fit the rule set of these tables.
 -- Shown by: law a_prepared_batch_stays_prepared.
 abbrev pub IsPrepared : Tables → Ready → Type 0
-IsPrepared t r = ArePartsOf t.set (batch_of r.batch).entries r.parts.items
+IsPrepared t r = ArePartsOf r.batch.moment t.set (batch_of r.batch).entries r.parts.items
 
 -- The batch is this change alone, and its part has this rule set: the one after the change, if the batch is prepared.
 -- Shown by: proofs alone.
 pub record IsOneChange (r : Ready) (c : Control) (set : RuleSet) : Type 0 where
   pub entry : (batch_of r.batch).entries ≡ control c ∷ []
   pub queue : Option (List ℕ)
+  pub archive : Option Archive
   pub others : List Part
-  pub parts : r.parts.items ≡ Configuration set queue ∷ others
+  pub parts : r.parts.items ≡ Configuration set queue archive ∷ others
 
 -- The batch can be applied: the tables admit it, and its parts fit.
 -- Shown by: proofs alone.

@@ -8,7 +8,8 @@ use Rattle.rule_targets.specs.declared.target.AskedTarget.{AskedTarget}
 
 -- What a request asks for: an action with its members. Each bus is given by its name. An entry of a PutEvents is an event without its
 -- number, or has a fault; `size` is the number of bytes of all entries together. `put_policy` has the policy's text as it would be stored.
--- A `put_statement` allows this account, or everyone. A `remove_statement` that gives no StatementId is refused.
+-- A `put_statement` allows this account, or everyone. A `remove_statement` that gives no StatementId is refused. An `update_archive` leaves
+-- the pattern or the days as they are if it gives none. A `list_archives` has the text of an EventSourceArn as it was given.
 -- Shown by: tables api_wire.rows: a_message_has_its_first_refusal.
 pub data Action : Type 0 where
   create_event_bus : (name : List ℕ) → Action
@@ -30,6 +31,11 @@ pub data Action : Type 0 where
   remove_statement : (bus : List ℕ) (sid : Option (List ℕ)) → Action
   put_events : (entries : List (Result Unnumbered EntryFault)) (size : ℕ) → Action
   test_event_pattern : (pattern : List ℕ) (event : Tree) → Action
+  create_archive : (name bus : List ℕ) (pattern : Option (List ℕ)) (days : ℕ) → Action
+  update_archive : (name : List ℕ) (pattern : Option (List ℕ)) (days : Option ℕ) → Action
+  delete_archive : (name : List ℕ) → Action
+  describe_archive : (name : List ℕ) → Action
+  list_archives : (prefix source state : Option (List ℕ)) → Action
   create_queue : (name : List ℕ) → Action
   delete_queue : (name : List ℕ) → Action
   peek_messages : (queue : List ℕ) (limit : ℕ) → Action

@@ -34,6 +34,11 @@ action_of (action.RemovePolicy bus) = request.remove_policy bus
 action_of (action.RemoveStatement bus sid) = request.remove_statement bus sid
 action_of (action.PutEvents entries size) = request.put_events entries.items size
 action_of (action.TestEventPattern pattern event) = request.test_event_pattern pattern (tree_of event)
+action_of (action.CreateArchive name bus pattern days) = request.create_archive name bus pattern days
+action_of (action.UpdateArchive name pattern days) = request.update_archive name pattern days
+action_of (action.DeleteArchive name) = request.delete_archive name
+action_of (action.DescribeArchive name) = request.describe_archive name
+action_of (action.ListArchives prefix source state) = request.list_archives prefix source state
 action_of (action.CreateQueue name) = request.create_queue name
 action_of (action.DeleteQueue name) = request.delete_queue name
 action_of (action.PeekMessages queue limit) = request.peek_messages queue limit
@@ -46,10 +51,10 @@ action_of action.DutyCounts = request.duty_counts
 abbrev pub request_of : Request → request.Request
 request_of r = record { action = action_of r.action; caller = r.caller; reading = r.reading }
 
--- What contracts see of the code's `AcceptedEvent`, with its duties as a list.
+-- What contracts see of the code's `AcceptedEvent`, with its archives and its duties as lists.
 -- Shown by: first-run.
 abbrev pub accepted_of : AcceptedEvent → batch.Accepted
-accepted_of e = record { number = e.number; bus = e.bus; k = e.k; time = e.time; text = e.text; duties = e.duties.items }
+accepted_of e = record { number = e.number; bus = e.bus; k = e.k; time = e.time; text = e.text; archives = e.archives.items; duties = e.duties.items }
 
 -- What contracts see of the code's `Entry`, with the view of what it records.
 -- Shown by: first-run.

@@ -17,6 +17,8 @@ pub struct AcceptedEvent {
     pub time: u64,
     /// The whole event, as compact JSON. Its duties share it.
     pub text: SharedText,
+    /// The names of the archives that keep it, in byte order.
+    pub archives: Vec<Text>,
     /// One for each target of each rule that matches.
     pub duties: Vec<NewDuty>,
 }

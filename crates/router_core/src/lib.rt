@@ -5,6 +5,7 @@ mod batch;
 mod duties;
 mod errand;
 mod finder;
+mod keeping;
 mod laws;
 mod matching;
 mod ready;
@@ -20,10 +21,14 @@ pub use errand::Errand;
 pub use finder::Finder;
 pub use laws::a_prepared_batch_stays_prepared;
 pub use matching::{
-    pattern_matches, push_targets, see_event_with, see_plain, see_plain_event, see_with,
+    archives_keeping, pattern_matches, push_targets, see_event_with, see_plain, see_plain_event,
+    see_with,
 };
 pub use ready::{Part, Ready};
 pub use released::Released;
 pub use request::{Action, Request};
-pub use seen::{Seen, SeenEntries, SeenEntry, SeenResult, SeenTarget, SeenTargets, SeenVerdict};
+pub use seen::{
+    Matched, Seen, SeenArchive, SeenArchives, SeenEntries, SeenEntry, SeenResult, SeenTarget,
+    SeenTargets, SeenVerdict,
+};
 pub use tables::Tables;

@@ -1,25 +1,29 @@
 //! Which rules match an event.
-ghost use Rattle.std.specs.Prelude.{◌≡◌, ◌↔◌, ◌++◌, ℕ, List, None, Some, map, IsTrue, IsFalse, IfOk, OnOk, Ok};
+ghost use Rattle.std.specs.Prelude.{◌≡◌, ◌↔◌, ◌++◌, ◌∷◌, [], true, ℕ, List, None, Some, map, IsTrue, IsFalse, IfOk, OnOk, Ok};
 ghost use Rattle.std.specs.Option.{option_copied};
 ghost use Rattle.json_text.specs.View.{tree_of};
 ghost use Rattle.json_text.specs.Compact.{IsValue};
 ghost use Rattle.event_shape.specs.Event.{event_tree};
-ghost use Rattle.rule_table.specs.RuleSet.{rules_of};
+ghost use Rattle.rule_table.specs.RuleSet.{archives_of, rules_of};
+ghost use Rattle.std.specs.Str.{bytes_eq};
 ghost use Rattle.bus_policy.specs.View.{verdict_of as policy_verdict_of};
 ghost use Rattle.router_core.specs.View.{request_of, action_of};
 ghost use Rattle.router_core.specs.Verdict.{IsEntryVerdict, IsVerdictOn, seen_verdict};
 ghost use Rattle.router_core.specs.Matching.{TextMatches, Matches, seen_target, AreMatched, AreTargetsOf, IsSeenEntry, AreSeenEntries, IsSeenResult};
-ghost use Rattle.router_core.specs.Matching.{IsSeen, HasValue, IsSeenEvent};
+ghost use Rattle.router_core.specs.Matching.{IsSeen, HasValue, IsSeenEvent, AreArchivesOf, AreKeeping, Keeps, MatchesIfGiven, seen_archive};
 
 use crate::finder::Finder;
 use crate::request::{Action, Request};
-use crate::seen::{Seen, SeenEntries, SeenEntry, SeenResult, SeenTarget, SeenTargets, SeenVerdict};
+use crate::seen::{
+    Matched, Seen, SeenArchive, SeenArchives, SeenEntries, SeenEntry, SeenResult, SeenTarget,
+    SeenTargets, SeenVerdict,
+};
 use bus_policy::{Asker, Verdict, bus_verdict};
 use event_shape::{EntryFault, Event, Unnumbered};
 use json_text::{Json, NoMemory, Text};
 use pattern_meaning::plain_holds;
-use pattern_read::PatternText;
-use rule_table::{Bus, Rule, RuleSet};
+use pattern_read::{PatternText, SharedPattern};
+use rule_table::{ArchiveRow, Bus, Rule, RuleSet};
 use rule_targets::share_input;
 use std::alloc::Global;
 use std::collections::VecDeque;
@@ -78,6 +82,11 @@ fn found<F: Finder>(
         | Action::PutStatement { .. }
         | Action::RemovePolicy { .. }
         | Action::RemoveStatement { .. }
+        | Action::CreateArchive { .. }
+        | Action::UpdateArchive { .. }
+        | Action::DeleteArchive { .. }
+        | Action::DescribeArchive { .. }
+        | Action::ListArchives { .. }
         | Action::CreateQueue { .. }
         | Action::DeleteQueue { .. }
         | Action::PeekMessages { .. }
@@ -117,6 +126,7 @@ fn see_entry<F: Finder>(
         Err(fault) => Ok(SeenEntry {
             verdict: SeenVerdict::Fault(*fault),
             targets: VecDeque::new(alloc),
+            archives: VecDeque::new(alloc),
         }),
     }
 }
@@ -131,8 +141,12 @@ fn see_event<F: Finder>(
     ensures { IfOk result (λ seen. IsSeenEntry (F.set_of finder.now) caller.now (Ok event.now) seen) }
 {
     let verdict = verdict_on(alloc, finder.rule_set(), caller, event)?;
-    let targets = targets_of(alloc, finder, event, &verdict)?;
-    Ok(SeenEntry { verdict, targets })
+    let Matched { targets, archives } = matched_if_allowed(alloc, finder, event, &verdict)?;
+    Ok(SeenEntry {
+        verdict,
+        targets,
+        archives,
+    })
 }
 
 /// The verdict on an event of this caller.
@@ -150,21 +164,25 @@ fn verdict_on(
     }
 }
 
-/// The targets of an event with this verdict: those that match it if it is allowed, else none.
-fn targets_of<F: Finder>(
+/// The targets and the archives of an event with this verdict: those that match it if it is allowed, else none.
+fn matched_if_allowed<F: Finder>(
     alloc: Global,
     finder: &F,
     event: &Unnumbered,
     verdict: &SeenVerdict,
-) -> Result<SeenTargets, NoMemory>
-    ensures { IfOk result (λ targets. AreTargetsOf (F.set_of finder.now) (Ok event.now) verdict.now targets.items) }
+) -> Result<Matched, NoMemory>
+    ensures targets { IfOk result (λ m. AreTargetsOf (F.set_of finder.now) (Ok event.now) verdict.now m.targets.items) }
+    ensures archives { IfOk result (λ m. AreArchivesOf (F.set_of finder.now) (Ok event.now) verdict.now m.archives.items) }
 {
     match verdict {
         SeenVerdict::Allowed => finder.matched(alloc, event.bus(), event.tree()),
         SeenVerdict::Fault(_)
         | SeenVerdict::NoBus
         | SeenVerdict::DeniedBy(_)
-        | SeenVerdict::NotAllowed => Ok(VecDeque::new(alloc)),
+        | SeenVerdict::NotAllowed => Ok(Matched {
+            targets: VecDeque::new(alloc),
+            archives: VecDeque::new(alloc),
+        }),
     }
 }
 
@@ -192,7 +210,10 @@ pub fn see_event_with<F: Finder>(
     ensures { IfOk result (λ seen. IsSeenEvent (F.set_of finder.now) bus.now (event_tree event.now (option_copied replay.entry)) seen.0 seen.1.items) }
 {
     let tree = event.tree(alloc, replay)?;
-    let targets = finder.matched(alloc, bus, &tree)?;
+    let Matched {
+        targets,
+        archives: _archives,
+    } = finder.matched(alloc, bus, &tree)?;
     Ok((finder.rule_set().control_count(), targets))
 }
 
@@ -249,6 +270,61 @@ pub(crate) fn matched(
         }
     }
     Ok(targets)
+}
+
+/// The archives of the bus that keep the event, by name.
+pub fn archives_keeping(
+    alloc: Global,
+    set: &RuleSet,
+    bus: &str,
+    event: &Json,
+) -> Result<SeenArchives, NoMemory>
+    requires { IsValue (tree_of event.now) }
+    ensures { IfOk result (λ archives. AreKeeping (archives_of bus.now set.now) (tree_of event.now) archives.items) }
+{
+    let mut found = VecDeque::new(alloc);
+    let mut archives = set.archives();
+    while let Some(archive) = archives.next() {
+        if keeps(archive, bus, event) {
+            push_archive(archive, &mut found)?;
+        }
+    }
+    Ok(found)
+}
+
+/// Whether the archive is the bus's and keeps the event.
+fn keeps(archive: &ArchiveRow, bus: &str, event: &Json) -> bool
+    requires { IsValue (tree_of event.now) }
+    ensures yes { IsTrue result → (bytes_eq archive.now.bus bus.now ≡ true) × Keeps archive.now (tree_of event.now) }
+    ensures not { IsFalse result → bytes_eq archive.now.bus bus.now ≡ true → ¬ Keeps archive.now (tree_of event.now) }
+{
+    if archive.bus() == bus {
+        matches_if_given(archive.pattern(), event)
+    } else {
+        false
+    }
+}
+
+/// Whether there is no pattern, or it matches the event.
+fn matches_if_given(pattern: Option<&SharedPattern>, event: &Json) -> bool
+    requires { IsValue (tree_of event.now) }
+    ensures { IsTrue result ↔ MatchesIfGiven (option_copied pattern.entry) (tree_of event.now) }
+{
+    match pattern {
+        Some(pattern) => pattern_matches(pattern.pattern(), event),
+        None => true,
+    }
+}
+
+/// Appends the archive.
+fn push_archive(archive: &ArchiveRow, found: &mut SeenArchives) -> Result<(), NoMemory>
+    ensures { OnOk result (found.new.items ≡ found.old.items ++ seen_archive archive.now ∷ []) }
+{
+    found.push_back(SeenArchive {
+        name: archive.share_name()?,
+        made: archive.made(),
+    })?;
+    Ok(())
 }
 
 /// Whether the rule is enabled and its pattern matches the event.

@@ -1,22 +1,25 @@
 //! Batches that are ready to be applied.
-ghost use Rattle.std.specs.Prelude.{◌≡◌, ◌⊎◌, ◌<◌, ◌^◌, ◌∷◌, [], ℕ, IfOk, IfErr, IfSome, IfNone, MatchOption, List, Option, map};
+ghost use Rattle.std.specs.Prelude.{◌≡◌, ◌⊎◌, ◌<◌, ◌^◌, ◌∷◌, [], ℕ, IfOk, IfErr, IfSome, IfNone, MatchOption, List, Option, All, length, map};
 ghost use Rattle.rule_table.specs.Control.{Control as Change};
 ghost use Rattle.rule_table.specs.RuleSet.{RuleSet as Set};
 ghost use Rattle.rule_table.specs.Refusal.{IsAllowed, refusal};
 ghost use Rattle.rule_table.specs.View.{control_of};
 ghost use Rattle.router_core.specs.Batch.{control as change, accepted};
 ghost use Rattle.router_core.specs.View.{accepted_of, entry_of};
-ghost use Rattle.router_core.specs.Ready.{IsPartOf, IsOneChange, HasPlace};
+ghost use Rattle.archive_keep.specs.Archive.{Archive as ArchiveView};
+ghost use Rattle.archive_keep.specs.Kept.{IsTextOfEvent};
+ghost use Rattle.router_core.specs.Ready.{IsPartOf, IsOneChange, HasPlace, HasArchive, AreKeptAs};
 ghost use Rattle.router_core.specs.declared.ready.Part.{Part as PartView};
 ghost use Rattle.router_core.specs.declared.ready.Part.TheVariants.{Configuration};
 
 use crate::batch::{AcceptedEvent, Batch, Entry};
+use archive_keep::{Archive, EventRef, KeptEvent};
 use delivery_duties::{NewDuties, NewDuty};
 use delivery_queues::NewQueue;
 use json_text::NoMemory;
 use rule_table::{Control, ControlFault, RuleSet};
 use std::alloc::Global;
-use std::collections::VecDeque;
+use std::collections::{LinkedList, VecDeque};
 
 /// What applying one entry of a batch needs. All its memory is allocated. A part is made from its entry, and of a change also from the rule
 /// set before it; nothing else of the tables is in it. So a journal that reads batches back can make their parts again, each on the rule
@@ -24,14 +27,16 @@ use std::collections::VecDeque;
 /// number.
 #[derive(Drop)]
 pub enum Part {
-    /// Of a change: the rule set after it, and the new queue if it creates one.
+    /// Of a change: the rule set after it, and the new queue or the new archive if it creates one.
     Configuration {
         set: RuleSet,
         new_queue: Option<NewQueue>,
+        new_archive: Option<Archive>,
     },
-    /// Of an event: the rows of its duties.
+    /// Of an event: the rows of its duties, and a pointer to its record for each archive that keeps it.
     Event {
         duties: NewDuties,
+        kept: LinkedList<EventRef>,
     },
     /// Of deleted messages.
     Nothing,
@@ -45,23 +50,36 @@ pub struct Ready {
 }
 
 impl Part {
-    /// The part of the change on this rule set, or the change's first refusal.
-    pub fn of_control(alloc: Global, set: &RuleSet, control: &Control) -> Result<Part, ControlFault>
+    /// The part of the change on this rule set, of a batch of this moment, or the change's first refusal.
+    pub fn of_control(
+        alloc: Global,
+        set: &RuleSet,
+        control: &Control,
+        moment: u64,
+    ) -> Result<Part, ControlFault>
         requires { set.now.count < 2 ^ 63 }
-        ensures part { IfOk result (λ part. IsAllowed (control_of control.now) set.now × IsPartOf set.now (change (control_of control.now)) part) }
+        ensures part { IfOk result (λ part. IsAllowed (control_of control.now) set.now × IsPartOf moment set.now (change (control_of control.now)) part) }
         ensures refused { IfErr result (λ fault. (fault ≡ ControlFault.NoMemory) ⊎ (refusal (control_of control.now) set.now ≡ Some fault)) }
     {
         let set = set.apply(alloc, control)?;
         let new_queue = new_queue(alloc, control)?;
-        Ok(Part::Configuration { set, new_queue })
+        let new_archive = new_archive(alloc, control, moment)?;
+        Ok(Part::Configuration {
+            set,
+            new_queue,
+            new_archive,
+        })
     }
 
-    /// The part of the event. Its duties share their texts and their targets' rows with those of the event.
-    pub fn of_event(alloc: Global, event: &AcceptedEvent) -> Result<Part, NoMemory>
-        ensures { IfOk result (λ part. (set : Set) → IsPartOf set (accepted (accepted_of event.now)) part) }
+    /// The part of the event in a batch of this moment. Its duties share their texts and their targets' rows with those of the
+    /// event, and its record shares the event's text.
+    pub fn of_event(alloc: Global, event: &AcceptedEvent, moment: u64) -> Result<Part, NoMemory>
+        requires { IsTextOfEvent event.now.text }
+        ensures { IfOk result (λ part. (set : Set) → IsPartOf moment set (accepted (accepted_of event.now)) part) }
     {
         let duties = shared(alloc, &event.duties)?;
-        Ok(Part::Event { duties })
+        let kept = kept(alloc, event, moment)?;
+        Ok(Part::Event { duties, kept })
     }
 }
 
@@ -111,8 +129,8 @@ fn only_change(entries: &[Entry]) -> Option<&Control>
 /// The rule set of the first part, if that is a change's.
 fn first_set(parts: &VecDeque<Part>) -> Option<&RuleSet>
     ensures { MatchOption result
-        ((set : Set) (queue : Option (List ℕ)) (others : List PartView) → ¬ (parts.now.items ≡ Configuration set queue ∷ others))
-        (λ set. (queue : Option (List ℕ)) × (others : List PartView) × (parts.now.items ≡ Configuration set.now queue ∷ others)) }
+        ((set : Set) (queue : Option (List ℕ)) (archive : Option ArchiveView) (others : List PartView) → ¬ (parts.now.items ≡ Configuration set queue archive ∷ others))
+        (λ set. (queue : Option (List ℕ)) × (archive : Option ArchiveView) × (others : List PartView) × (parts.now.items ≡ Configuration set.now queue archive ∷ others)) }
 {
     match parts.front() {
         Some(Part::Configuration { set, .. }) => Some(set),
@@ -134,8 +152,67 @@ fn new_queue(alloc: Global, control: &Control) -> Result<Option<NewQueue>, NoMem
         | Control::TargetsPut { .. }
         | Control::TargetsRemoved { .. }
         | Control::PolicyPut { .. }
-        | Control::QueueDeleted { .. } => Ok(None),
+        | Control::QueueDeleted { .. }
+        | Control::ArchiveCreated { .. }
+        | Control::ArchiveUpdated { .. }
+        | Control::ArchiveDeleted { .. } => Ok(None),
     }
+}
+
+/// The archive that the change creates at this moment, if it creates one.
+fn new_archive(alloc: Global, control: &Control, moment: u64) -> Result<Option<Archive>, NoMemory>
+    ensures { IfOk result (λ archive. HasArchive (control_of control.now) moment archive) }
+{
+    match control {
+        Control::ArchiveCreated {
+            name,
+            bus: _,
+            pattern: _,
+            days,
+        } => Ok(Some(Archive::new(alloc, name.copy(alloc)?, *days, moment))),
+        Control::BusCreated { .. }
+        | Control::BusDeleted { .. }
+        | Control::RulePut { .. }
+        | Control::RuleDeleted { .. }
+        | Control::StatePut { .. }
+        | Control::TargetsPut { .. }
+        | Control::TargetsRemoved { .. }
+        | Control::PolicyPut { .. }
+        | Control::QueueCreated { .. }
+        | Control::QueueDeleted { .. }
+        | Control::ArchiveUpdated { .. }
+        | Control::ArchiveDeleted { .. } => Ok(None),
+    }
+}
+
+/// A pointer to the event's record for each archive that keeps it. Without an archive there is no record.
+fn kept(alloc: Global, event: &AcceptedEvent, moment: u64) -> Result<LinkedList<EventRef>, NoMemory>
+    requires { IsTextOfEvent event.now.text }
+    ensures { IfOk result (λ kept. AreKeptAs moment (accepted_of event.now) kept) }
+{
+    if event.archives.is_empty() {
+        return Ok(LinkedList::new(alloc));
+    }
+    let text = event.text.share()?;
+    let made = KeptEvent {
+        number: event.number,
+        accepted: moment,
+        time: event.time,
+        text,
+    };
+    let first = EventRef::new(alloc, made)?;
+    copies(alloc, &first, event.archives.len())
+}
+
+/// This number of pointers to the event.
+fn copies(alloc: Global, event: &EventRef, count: usize) -> Result<LinkedList<EventRef>, NoMemory>
+    ensures { IfOk result (λ list. All (λ k. k ≡ event.now) list × (length list ≡ count)) }
+{
+    let mut list = LinkedList::new(alloc);
+    for _ in 0..count {
+        list.push_back(event.share()?)?;
+    }
+    Ok(list)
 }
 
 /// The same duties, which share their texts and rows.

@@ -1,10 +1,11 @@
 //! What is left after a batch was applied.
 use crate::batch::Batch;
 use crate::ready::Part;
+use archive_keep::{Archive, EventRef};
 use delivery_queues::{DeletedMessages, RemovedQueue};
 use rule_table::RuleSet;
 use shared_text::{SharedRow, SharedText};
-use std::collections::VecDeque;
+use std::collections::{LinkedList, VecDeque};
 
 /// What applying a batch leaves over. Dropping it frees memory, so drop it where nobody waits.
 #[derive(Drop)]
@@ -18,6 +19,12 @@ pub struct Released {
     pub(crate) queue: Option<RemovedQueue>,
     /// The messages that the batch deletes, if it deletes some.
     pub(crate) messages: Option<DeletedMessages>,
+    /// The archive that the batch deletes, with its events, if it deletes one.
+    pub(crate) archive: Option<Archive>,
+    /// The events that the archives no longer retain.
+    pub(crate) expired: Option<LinkedList<EventRef>>,
+    /// What an update of an archive dropped.
+    pub(crate) dropped: Option<LinkedList<EventRef>>,
     /// The row that the errand shared with its duty, if the batch records an attempt.
     pub(crate) target: Option<SharedRow>,
     /// The text that the errand shared with its duty, if the batch records an attempt.
@@ -33,6 +40,9 @@ impl Released {
             set: None,
             queue: None,
             messages: None,
+            archive: None,
+            expired: None,
+            dropped: None,
             target: None,
             text: None,
         }

@@ -105,6 +105,33 @@ pub enum Action {
         pattern: SharedPattern,
         event: Json,
     },
+    /// Create an archive, which keeps the events of the bus that have the pattern, or all of them, for these days. 0 is forever.
+    CreateArchive {
+        name: Text,
+        bus: Text,
+        pattern: Option<SharedPattern>,
+        days: u32,
+    },
+    /// Change an archive's pattern, its days, or both.
+    UpdateArchive {
+        name: Text,
+        pattern: Option<SharedPattern>,
+        days: Option<u32>,
+    },
+    /// Delete an archive with the events that it keeps.
+    DeleteArchive {
+        name: Text,
+    },
+    /// Show an archive.
+    DescribeArchive {
+        name: Text,
+    },
+    /// Show the archives whose names begin with the prefix, whose bus has this ARN, and which are in this state, as far as given.
+    ListArchives {
+        prefix: Option<Text>,
+        source: Option<Text>,
+        state: Option<Text>,
+    },
     /// Create a queue.
     CreateQueue {
         name: Text,

@@ -2,7 +2,7 @@
 use event_shape::EntryFault;
 use json_text::Text;
 use rule_targets::SharedInput;
-use shared_text::SharedRow;
+use shared_text::{SharedRow, SharedText};
 use std::collections::VecDeque;
 
 /// A target of a rule that matches an event. It stays valid after its rule set is dropped.
@@ -11,6 +11,14 @@ pub struct SeenTarget {
     pub row: SharedRow,
     /// What its text is made of; without an input it gets the event's text.
     pub input: Option<SharedInput>,
+}
+
+/// An archive that keeps an event. It stays valid after its rule set is dropped.
+#[derive(Debug, Drop)]
+pub struct SeenArchive {
+    pub name: SharedText,
+    /// The configuration version after its creation.
+    pub made: u64,
 }
 
 /// The verdict on an entry of a PutEvents, on a rule set.
@@ -30,12 +38,24 @@ pub enum SeenVerdict {
 /// Targets, in the order of their rules.
 pub type SeenTargets = VecDeque<SeenTarget>;
 
+/// Archives, in the byte order of their names.
+pub type SeenArchives = VecDeque<SeenArchive>;
+
+/// What matching finds of one event.
+#[derive(Debug, Drop)]
+pub struct Matched {
+    pub targets: SeenTargets,
+    pub archives: SeenArchives,
+}
+
 /// The result of matching one entry of a PutEvents.
 #[derive(Debug, Drop)]
 pub struct SeenEntry {
     pub verdict: SeenVerdict,
     /// The targets of the rules that match the event, in the order of the rule set; none if the entry is not allowed.
     pub targets: SeenTargets,
+    /// The archives that keep the event, by name; none if the entry is not allowed.
+    pub archives: SeenArchives,
 }
 
 /// The result of matching each entry of a PutEvents, in their order.

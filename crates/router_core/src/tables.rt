@@ -5,23 +5,24 @@ ghost use Rattle.json_text.specs.Moment.{IsMoment};
 ghost use Rattle.delivery_duties.specs.declared.duty.DutyRow.{DutyRow};
 ghost use Rattle.delivery_duties.specs.declared.outcome.Outcome.{Outcome as Ended};
 ghost use Rattle.delivery_queues.specs.Queues.{message_count};
-ghost use Rattle.delivery_duties.specs.Duties.{NoneDue, IsOut, added, pending_row};
-ghost use Rattle.router_core.specs.Batch.{messages_deleted};
+ghost use Rattle.delivery_duties.specs.Duties.{NoneDue, IsOut, pending_row};
+ghost use Rattle.router_core.specs.Batch.{Accepted as Event, accepted, control as change, messages_deleted};
 ghost use Rattle.router_core.specs.View.{batch_of, entry_of};
 ghost use Rattle.router_core.specs.Tables.{first_tables, after_entry, after_batch, is_full, number_limit, IsConsistent};
 ghost use Rattle.router_core.specs.Admitted.{IsAdmitted, IsEntryAdmitted};
-ghost use Rattle.router_core.specs.Ready.{HasPlace, IsPartOf, IsReadyFor};
-ghost use Rattle.router_core.specs.Parts.{deleted_by, deleted_in, with_created, with_forgotten, with_set, with_duties};
+ghost use Rattle.router_core.specs.Ready.{IsPartOf, IsReadyFor};
+ghost use Rattle.router_core.specs.declared.ready.Part.TheVariants.{Configuration, Event as EventPart};
 ghost use Rattle.rule_table.specs.Control.{Control as Change};
-ghost use Rattle.rule_table.specs.Refusal.{IsAllowed};
-ghost use Rattle.rule_table.specs.RuleSet.{applied};
+ghost use Rattle.router_core.specs.Parts.{deleted_by, with_created, with_forgotten};
 ghost use Rattle.rule_table.specs.View.{control_of};
 ghost use Rattle.router_core.specs.Steps.{IsErrandOf, IsClaimed, IsRecordedAs, record_of, putting_back, fate_after};
 
 use crate::batch::{Batch, Entry};
 use crate::errand::Errand;
+use crate::keeping::{change_archives, keep_each, purge};
 use crate::ready::{Part, Ready};
 use crate::released::Released;
+use archive_keep::{Archive, Archives, EventRef};
 use delivery_duties::{Duties, Fate, NewDuties, Outcome};
 use delivery_queues::{NewQueue, RemovedQueue};
 use event_shape::queue_of;
@@ -29,17 +30,20 @@ use json_text::NoMemory;
 use rule_table::{Control, RuleSet};
 use shared_text::{SharedRow, SharedText};
 use std::alloc::Global;
+use std::collections::LinkedList;
 use std::marker::Model;
 use std::mem;
 
 /// No further batch is made once there are this many entries or duties.
 const NUMBER_LIMIT: u64 = 1 << 48;
 
-/// The rule set, the duties and the queues' messages, and the numbers of events, entries and batches so far.
+/// The rule set, the duties and the queues' messages, the archives with their events, and the numbers of events, entries and batches so
+/// far.
 #[derive(Drop)]
 pub struct Tables {
     set: RuleSet,
     duties: Duties,
+    archives: Archives,
     events: u64,
     entries: u64,
     batches: u64,
@@ -51,11 +55,20 @@ impl Model for Tables {
 
     ghost Value = { View };
 
-    ghost view = { λ t. record { set = t.set; duties = t.duties; events = t.events; entries = t.entries; batches = t.batches; moment = t.moment } };
+    ghost view = { λ t. record {
+      set = t.set;
+      duties = t.duties;
+      archives = t.archives;
+      events = t.events;
+      entries = t.entries;
+      batches = t.batches;
+      moment = t.moment;
+    } };
 
     ghost invariant = { λ t. IsConsistent (record {
       set = t.set;
       duties = t.duties;
+      archives = t.archives;
       events = t.events;
       entries = t.entries;
       batches = t.batches;
@@ -71,6 +84,7 @@ impl Tables {
         Ok(Tables {
             set: RuleSet::first(alloc)?,
             duties: Duties::new(alloc)?,
+            archives: Archives::new(alloc)?,
             events: 0,
             entries: 0,
             batches: 0,
@@ -98,6 +112,13 @@ impl Tables {
         ensures { result.now ≡ self.now.duties }
     {
         &self.duties
+    }
+
+    /// The archives, with the events that they keep.
+    pub fn archives(&self) -> &Archives
+        ensures { result.now ≡ self.now.archives }
+    {
+        &self.archives
     }
 
     /// The number of events accepted so far.
@@ -153,6 +174,7 @@ impl Tables {
                 None => unreachable!(),
             }
         }
+        released.expired = Some(purge(&self.set, &mut self.archives, moment));
         self.batches = batches;
         self.moment = moment;
         released.batch = Some(batch);
@@ -162,52 +184,80 @@ impl Tables {
 
     /// Applies one entry, whose part this is. `released` receives what it leaves over.
     fn join(&mut self, entry: &Entry, part: Part, moment: u64, released: &mut Released)
-        requires part { IsPartOf self.old.set (entry_of entry.now) part }
+        requires part { IsPartOf moment self.old.set (entry_of entry.now) part }
         requires admitted { IsEntryAdmitted moment (entry_of entry.now) self.old }
+        requires moment { IsMoment moment }
+        requires later { self.old.moment ≤ moment }
         requires entries { self.old.entries + 1 < number_limit + 2 ^ 20 }
         requires created { self.old.duties.created + 1500 < number_limit + 2 ^ 20 }
         ensures joined { self.new ≡ after_entry moment (entry_of entry.now) self.old }
         ensures created { self.new.duties.created ≤ self.old.duties.created + 1500 }
     {
         match part {
-            Part::Configuration { set, new_queue } => {
-                self.configure(set, new_queue, deleted_queue(entry), released);
-            }
-            Part::Event { duties } => self.publish(duties, moment),
+            Part::Configuration {
+                set,
+                new_queue,
+                new_archive,
+            } => self.configure(entry, set, new_queue, new_archive, moment, released),
+            Part::Event { duties, kept } => self.publish(entry, duties, kept, moment),
             Part::Nothing => self.delete_messages(entry, released),
         }
     }
 
-    /// Applies a change, with the rule set after it, and the queue that it creates or deletes, if there is one. `released` receives the rule set
-    /// before it and the deleted queue.
+    /// Applies the change that is this entry, with the rule set after it, and the queue or the archive that it creates, if it creates one.
+    /// `released` receives the rule set before it, and what it removes.
     fn configure(
         &mut self,
+        entry: &Entry,
         set: RuleSet,
         new_queue: Option<NewQueue>,
-        deleted: Option<&str>,
+        new_archive: Option<Archive>,
+        moment: u64,
         released: &mut Released,
     )
-        requires change { (c : Change) × (set ≡ applied c self.old.set) × HasPlace c new_queue × (option_copied deleted ≡ deleted_by c)
-            × IsAllowed c self.old.set }
+        requires change { (c : Change) × (entry_of entry.now ≡ change c) }
+        requires part { IsPartOf moment self.old.set (entry_of entry.now) (Configuration set new_queue new_archive) }
+        requires admitted { IsEntryAdmitted moment (entry_of entry.now) self.old }
         requires entries { self.old.entries + 1 < number_limit + 2 ^ 20 }
-        ensures { self.new ≡ with_set set new_queue (option_copied deleted.entry) self.old }
+        ensures configured { self.new ≡ after_entry moment (entry_of entry.now) self.old }
+        ensures created { self.new.duties.created ≡ self.old.duties.created }
     {
-        released.set = Some(mem::replace(&mut self.set, set));
-        create_queue(&mut self.duties, new_queue);
-        released.queue = forget_queue(&mut self.duties, deleted);
-        self.entries += 1;
+        match entry {
+            Entry::Control(control) => {
+                released.set = Some(mem::replace(&mut self.set, set));
+                create_queue(&mut self.duties, new_queue);
+                released.queue = forget_queue(&mut self.duties, deleted_by(control));
+                change_archives(&mut self.archives, control, new_archive, moment, released);
+                self.entries += 1;
+            }
+            Entry::Accepted(_) | Entry::Attempt { .. } | Entry::MessagesDeleted { .. } =>
+                unreachable!(),
+        }
     }
 
-    /// Applies an event, whose duties these are.
-    fn publish(&mut self, duties: NewDuties, moment: u64)
+    /// Applies the event that is this entry, whose duties these are, and of whose record there is a pointer for each of its archives.
+    fn publish(&mut self, entry: &Entry, duties: NewDuties, kept: LinkedList<EventRef>, moment: u64)
+        requires event { (e : Event) × (entry_of entry.now ≡ accepted e) }
+        requires part { IsPartOf moment self.old.set (entry_of entry.now) (EventPart duties kept) }
+        requires admitted { IsEntryAdmitted moment (entry_of entry.now) self.old }
+        requires moment { IsMoment moment }
+        requires later { self.old.moment ≤ moment }
         requires entries { self.old.entries + 1 < number_limit + 2 ^ 20 }
         requires created { self.old.duties.created + length duties < number_limit + 2 ^ 20 }
-        ensures added { self.new ≡ with_duties (added duties moment self.old.duties) self.old }
+        ensures added { self.new ≡ after_entry moment (entry_of entry.now) self.old }
         ensures created { self.new.duties.created ≡ self.old.duties.created + length duties }
     {
-        self.duties.add(duties, moment);
-        self.events += 1;
-        self.entries += 1;
+        match entry {
+            Entry::Accepted(event) => {
+                self.duties.add(duties, moment);
+                keep_each(&mut self.archives, &event.archives, kept);
+                self.events += 1;
+                self.entries += 1;
+                self.moment = moment;
+            }
+            Entry::Control(_) | Entry::Attempt { .. } | Entry::MessagesDeleted { .. } =>
+                unreachable!(),
+        }
     }
 
     /// Applies the deletion of messages that is this entry. `released` receives the messages.
@@ -348,6 +398,7 @@ impl Tables {
         match entries.pop() {
             Some(Entry::Attempt { duty: _, outcome }) => {
                 let fate = self.duties.settle(claim, outcome, moment);
+                released.expired = Some(purge(&self.set, &mut self.archives, moment));
                 self.entries += 1;
                 self.batches += 1;
                 self.moment = moment;
@@ -370,6 +421,7 @@ impl Tables {
     {
         let claim = self.duties.claim_at(duty);
         let fate = self.duties.settle(claim, outcome, moment);
+        let _expired = purge(&self.set, &mut self.archives, moment);
         self.entries += 1;
         self.batches += 1;
         self.moment = moment;
@@ -420,16 +472,6 @@ fn forget_queue(duties: &mut Duties, deleted: Option<&str>) -> Option<RemovedQue
     }
 }
 
-/// The name of the queue that the entry deletes, if it deletes one.
-fn deleted_queue(entry: &Entry) -> Option<&str>
-    ensures { option_copied result ≡ deleted_in (entry_of entry.now) }
-{
-    match entry {
-        Entry::Control(control) => deleted_by(control),
-        Entry::Accepted(_) | Entry::Attempt { .. } | Entry::MessagesDeleted { .. } => None,
-    }
-}
-
 /// The name of the queue that the change deletes, if it deletes one.
 fn deleted_by(control: &Control) -> Option<&str>
     ensures { option_copied result ≡ deleted_by (control_of control.now) }
@@ -444,6 +486,9 @@ fn deleted_by(control: &Control) -> Option<&str>
         | Control::TargetsPut { .. }
         | Control::TargetsRemoved { .. }
         | Control::PolicyPut { .. }
-        | Control::QueueCreated { .. } => None,
+        | Control::QueueCreated { .. }
+        | Control::ArchiveCreated { .. }
+        | Control::ArchiveUpdated { .. }
+        | Control::ArchiveDeleted { .. } => None,
     }
 }

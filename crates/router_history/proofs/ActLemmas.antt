@@ -9,22 +9,21 @@ use Rattle.router_history.specs.History.{Turn, State, Placed, last_version, afte
 use Rattle.router_history.specs.Acts.{Act, Happens, IsNamed, Makes}
 use Rattle.router_history.proofs.TurnLemmas.{state_append, turns_back, none_append, versions_grow}
 
--- turns of others come first
-pub happens_others : (n : ℕ) (s : State) (xs ys : List Turn) (acts : List Act) → AreTurnsFrom s xs → turns_by n xs ≡ [] → Happens n (state_after xs s) ys acts
-    → Happens n s (xs ++ ys) acts
-happens_others n s xs ys [] legal none h = none_append n xs ys none h
-happens_others n s xs ys (makes p ∷ acts) legal none (others, rest, is, other, pass, before, known, h) =
-    let grow = versions_grow xs s legal in (
-      xs ++ others,
-      rest,
-      ap (λ (ts : List Turn). xs ++ ts) is ∙ sym (append_assoc xs others (p.turn ∷ rest)),
-      none_append n xs others none other,
-      pass,
-      before ∙ sym (state_append s xs others),
-      omega (arith, grow, known),
-      h,
-    )
-happens_others n s xs ys (looks state ∷ acts) legal none (others, rest, is, other, shows, h) = (
+-- turns of others come first, and the version does not fall by them
+pub happens_others : (n : ℕ) (s : State) (xs ys : List Turn) (acts : List Act) → last_version s ≤ last_version (state_after xs s) → turns_by n xs ≡ []
+    → Happens n (state_after xs s) ys acts → Happens n s (xs ++ ys) acts
+happens_others n s xs ys [] grow none h = none_append n xs ys none h
+happens_others n s xs ys (makes p ∷ acts) grow none (others, rest, is, other, pass, before, known, h) = (
+  xs ++ others,
+  rest,
+  ap (λ (ts : List Turn). xs ++ ts) is ∙ sym (append_assoc xs others (p.turn ∷ rest)),
+  none_append n xs others none other,
+  pass,
+  before ∙ sym (state_append s xs others),
+  omega (arith, grow, known),
+  h,
+)
+happens_others n s xs ys (looks state ∷ acts) grow none (others, rest, is, other, shows, h) = (
   xs ++ others,
   rest,
   ap (λ (ts : List Turn). xs ++ ts) is ∙ sym (append_assoc xs others rest),
@@ -32,10 +31,10 @@ happens_others n s xs ys (looks state ∷ acts) legal none (others, rest, is, ot
   shows ∙ sym (state_append s xs others),
   h,
 )
-happens_others n s xs ys (reads piece ∷ acts) legal none h = happens_others n s xs ys acts legal none h
-happens_others n s xs ys (ticks reading ∷ acts) legal none h = happens_others n s xs ys acts legal none h
-happens_others n s xs ys (tries claim outcome ∷ acts) legal none h = happens_others n s xs ys acts legal none h
-happens_others n s xs ys (writes bytes ∷ acts) legal none h = happens_others n s xs ys acts legal none h
+happens_others n s xs ys (reads piece ∷ acts) grow none h = happens_others n s xs ys acts grow none h
+happens_others n s xs ys (ticks reading ∷ acts) grow none h = happens_others n s xs ys acts grow none h
+happens_others n s xs ys (tries claim outcome ∷ acts) grow none h = happens_others n s xs ys acts grow none h
+happens_others n s xs ys (writes bytes ∷ acts) grow none h = happens_others n s xs ys acts grow none h
 
 -- the state after turns of others and one turn
 pub state_here : (s : State) (others rest : List Turn) (p : Placed) → p.before ≡ state_after others s
@@ -46,7 +45,7 @@ state_here s others rest p before =
 -- acts, and then later ones
 pub happens_append : (n : ℕ) (s : State) (xs ys : List Turn) (first second : List Act) → AreTurnsFrom s xs → Happens n s xs first
     → Happens n (state_after xs s) ys second → Happens n s (xs ++ ys) (first ++ second)
-happens_append n s xs ys [] second legal h later = happens_others n s xs ys second legal h later
+happens_append n s xs ys [] second legal h later = happens_others n s xs ys second (versions_grow xs s legal) h later
 happens_append n s xs ys (makes p ∷ first) second legal (others, rest, is, other, pass, before, known, h) later =
     let there : AreTurnsFrom (after_turn p.turn p.before) rest =
     subst (λ (t : State). AreTurnsFrom (after_turn p.turn t) rest) (sym before) (turns_back s others (p.turn ∷ rest) (subst (AreTurnsFrom s) is legal)).1.1 in

@@ -1,7 +1,7 @@
 -- A batch that the tables admit is admitted with their claims set aside: `admitted_freed`; so it can be recorded after the batches of a history:
 -- `recordable_more`.
-use Rattle.std.proofs.Common.{◌≡◌, ℕ, true, false, List, [], ◌∷◌, ◌++◌, Some, refl, sym, ap, ◌∙◌, subst}
-use Rattle.std.specs.Prelude.{Bool, ◌||◌, not, ◌==◌, length}
+use Rattle.std.proofs.Common.{◌≡◌, ℕ, List, [], ◌∷◌, ◌++◌, refl, ap, ◌∙◌, subst}
+use Rattle.std.specs.Prelude.{◌||◌, not, ◌==◌, length}
 use Rattle.std.specs.List.{list_any}
 use Rattle.std.specs.Option.{option_map}
 use Rattle.rule_table.specs.Control.{Control, queue_deleted}
@@ -29,8 +29,17 @@ unnamed_freed _ d is = tt
 
 entry_admitted : (moment : ℕ) (e : Entry) (t : Tables) → IsEntryAdmitted moment e t → IsEntryAdmitted moment e (without_claims t)
 entry_admitted moment (control c) t (form, allowed, unnamed) = (form, allowed, unnamed_freed c t.duties unnamed)
-entry_admitted moment (accepted e) t is =
-    record { number = is.number; bus = is.bus; known = is.known; time = is.time; text = is.text; few = is.few; short = is.short }
+entry_admitted moment (accepted e) t is = record {
+  number = is.number;
+  bus = is.bus;
+  known = is.known;
+  time = is.time;
+  text = is.text;
+  archive_order = is.archive_order;
+  archives = is.archives;
+  few = is.few;
+  short = is.short;
+}
 entry_admitted moment (attempt duty outcome) t is = record {
   row = free is.row;
   pending = freed_value duty t.duties.pending ∙ ap (option_map free) is.pending;

@@ -1,6 +1,6 @@
 -- The batches of turns, and those whose append failed: `batches_append`, `none_unacknowledged`; what one turn more adds: `after_one`, `legal_one`, `batches_one`,
 -- `unacknowledged_one`, `disk_one`, `found_one`, `appended_one`; the batches are those that were found and those that were appended: `batches_split`.
-use Rattle.std.proofs.Common.{◌≡◌, ℕ, true, false, List, [], ◌∷◌, ◌++◌, Option, Some, None, refl, sym, ap, ◌∙◌, append_assoc, append-nil}
+use Rattle.std.proofs.Common.{◌≡◌, true, false, List, [], ◌∷◌, ◌++◌, Option, Some, None, refl, sym, ap, ◌∙◌, append_assoc, append-nil}
 use Rattle.std.proofs.lemmas.Bool.{true≢false}
 use Rattle.router_core.specs.Batch.{Batch}
 use Rattle.router_core.specs.Tables.{first_tables}

@@ -2,6 +2,7 @@
 use Rattle.std.proofs.Common.{◌≡◌, ℕ, List, [], ◌∷◌, Option, inl, inr, refl, sym, ap, ◌∙◌, subst}
 use Rattle.std.specs.Prelude.{All}
 use Rattle.std.proofs.lemmas.List.Elements.{All-head, All-tail}
+use Rattle.archive_keep.specs.Archive.{Archive}
 use Rattle.rule_table.specs.Control.{Control}
 use Rattle.rule_table.specs.RuleSet.{RuleSet, applied}
 use Rattle.router_core.specs.Batch.{Entry, control, accepted, attempt, messages_deleted}
@@ -15,9 +16,9 @@ use Rattle.router_core.specs.declared.ready.Ready.{Ready}
 
 pub one_set : (t : Tables) (r : Ready) (c : Control) (set : RuleSet) → IsReadyFor t r → IsOneChange r c set → set ≡ applied c t.set
 one_set t r c set ready one =
-    let own : ArePartsOf t.set (control c ∷ []) (Configuration set one.queue ∷ one.others) =
-    subst (λ es. ArePartsOf t.set es (Configuration set one.queue ∷ one.others)) one.entry
-    (subst (λ (ps : List Part). ArePartsOf t.set (batch_of r.batch).entries ps) one.parts ready.prepared) in
+    let own : ArePartsOf r.batch.moment t.set (control c ∷ []) (Configuration set one.queue one.archive ∷ one.others) =
+    subst (λ es. ArePartsOf r.batch.moment t.set es (Configuration set one.queue one.archive ∷ one.others)) one.entry
+    (subst (λ (ps : List Part). ArePartsOf r.batch.moment t.set (batch_of r.batch).entries ps) one.parts ready.prepared) in
     own.0.0
 
 pub after_change : (t : Tables) (r : Ready) (c : Control) (set : RuleSet) → IsReadyFor t r → IsOneChange r c set
@@ -33,18 +34,19 @@ events_keep moment (attempt duty outcome ∷ es) t all = absurd (All-head IsAnEv
 events_keep moment (messages_deleted queue through ∷ es) t all = absurd (All-head IsAnEvent (messages_deleted queue through) es all)
 
 -- the part of a change
-part_of_change : (set : RuleSet) (c : Control) (parts : List Part) → ArePartsOf set (control c ∷ []) parts
-    → (new : RuleSet) × (queue : Option (List ℕ)) × (others : List Part) × (parts ≡ Configuration new queue ∷ others)
-part_of_change set c [] own = absurd own
-part_of_change set c (Configuration new queue ∷ others) own = (new, queue, others, refl)
-part_of_change set c (Event duties ∷ others) own = absurd own.0
-part_of_change set c (Nothing ∷ others) own = absurd own.0
+part_of_change : (moment : ℕ) (set : RuleSet) (c : Control) (parts : List Part) → ArePartsOf moment set (control c ∷ []) parts
+    → (new : RuleSet) × (queue : Option (List ℕ)) × (archive : Option Archive) × (others : List Part) × (parts ≡ Configuration new queue archive ∷ others)
+part_of_change moment set c [] own = absurd own
+part_of_change moment set c (Configuration new queue archive ∷ others) own = (new, queue, archive, others, refl)
+part_of_change moment set c (Event duties kept ∷ others) own = absurd own.0
+part_of_change moment set c (Nothing ∷ others) own = absurd own.0
 
 one_keeps : (t : Tables) (r : Ready) (e : Entry) → IsReadyFor t r → (batch_of r.batch).entries ≡ e ∷ []
     → ((c : Control) (set : RuleSet) → ¬ (IsOneChange r c set)) → (after_entries (batch_of r.batch).moment (e ∷ []) t).set ≡ t.set
 one_keeps t r (control c) ready is none =
-    let p = part_of_change t.set c r.parts.items (subst (λ es. ArePartsOf t.set es r.parts.items) is ready.prepared) in
-    absurd (none c p.0 (record { entry = is; queue = p.1; others = p.2; parts = p.3 }))
+    let (new, queue, archive, others, parts) =
+    part_of_change r.batch.moment t.set c r.parts.items (subst (λ es. ArePartsOf r.batch.moment t.set es r.parts.items) is ready.prepared) in
+    absurd (none c new (record { entry = is; queue = queue; archive = archive; others = others; parts = parts }))
 one_keeps t r (accepted e) ready is none = refl
 one_keeps t r (attempt duty outcome) ready is none = refl
 one_keeps t r (messages_deleted queue through) ready is none = refl

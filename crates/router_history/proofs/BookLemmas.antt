@@ -12,7 +12,7 @@ use Rattle.router_history.specs.declared.book.Machine.{Machine}
 use Rattle.router_history.specs.declared.book.Seat.{Seat}
 use Rattle.router_history.specs.declared.history.History.{History}
 use Rattle.router_history.specs.declared.history.Turn.{Turn as CodeTurn}
-use Rattle.router_history.specs.History.{Ask, opens, Turn, State, Placed, IsTurnFor, IsLatest, last_version, set_of_version, IsLegal, AreTurnsFrom, after_ask, state_after, state_of, begun_with, after_all, AreLawful}
+use Rattle.router_history.specs.History.{OpenedDisk, Ask, opens, Turn, State, Placed, IsTurnFor, IsLatest, last_version, set_of_version, IsLegal, AreTurnsFrom, after_ask, state_after, state_of, begun_with, after_all, AreLawful}
 use Rattle.router_history.specs.Book.{recorded_in, turns_of, opening_on, opening, HasGrown, IsBook, IsSoundMachine}
 use Rattle.router_history.specs.Acts.{Makes}
 use Rattle.router_history.specs.Answered.{IsAdded}
@@ -20,11 +20,11 @@ use Rattle.router_history.proofs.TurnLemmas.{state_append, turns_append, turns_b
 use Rattle.router_history.proofs.SteadyLemmas.{IsSteady, steady_after, steady_begun, steady_found, disk_after, whole_after, found_disk, found_whole}
 use Rattle.router_history.proofs.ActLemmas.{makes_one}
 
--- the turns after the one that opened the book
 -- the state in which a book was opened
-abbrev pub opened_state : List Batch → Option ℕ → State
+abbrev pub opened_state : List Batch → Option OpenedDisk → State
 opened_state found disk = after_all found (begun_with disk first_tables)
 
+-- the turns after the one that opened the book
 pub legal_later : (turns : List Turn) (h : IsBook turns) → AreTurnsFrom (opened_state h.found h.disk) h.later
 legal_later turns h = (subst IsLegal h.opened h.legal).1
 
@@ -50,7 +50,7 @@ whole_of turns h none =
     ∙ whole_after h.later (opened_state h.found h.disk) (legal_later turns h) (found_disk h.found (begun_with h.disk first_tables) ∙ sym (disk_of turns h) ∙ none)
     (found_whole h.found (begun_with h.disk first_tables))
 
-opens_same : (a b : Tables) (xs ys : List Batch) (d e : Option ℕ) → opens a xs d ≡ opens b ys e → (b ≡ a) × (ys ≡ xs)
+opens_same : (a b : Tables) (xs ys : List Batch) (d e : Option OpenedDisk) → opens a xs d ≡ opens b ys e → (b ≡ a) × (ys ≡ xs)
 opens_same a b xs ys d e is = (cc, cc)
 
 -- what was found is lawful

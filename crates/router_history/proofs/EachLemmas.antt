@@ -1,5 +1,5 @@
 -- From which moment on each batch is in every image: `each_opened`, `each_same`, `each_appended`, `each_lost`. What is kept, of equal lists: `kept_as`.
-use Rattle.std.proofs.Common.{◌≡◌, ℕ, ◌+◌, ◌*◌, ◌≤◌, true, false, List, [], ◌∷◌, ◌++◌, length, Result, Ok, Err, refl, sym, ap, ◌∙◌, subst, arith, append_assoc, append-nil, length-append}
+use Rattle.std.proofs.Common.{◌≡◌, ℕ, ◌+◌, ◌*◌, ◌≤◌, true, false, List, [], ◌∷◌, ◌++◌, length, Ok, Err, refl, sym, ap, ◌∙◌, subst, arith, append-nil, length-append}
 use Rattle.std.proofs.lemmas.Bool.{true≢false}
 use Rattle.router_disk.specs.declared.disk_call.DiskCall.{DiskCall}
 use Rattle.router_disk.specs.Disk.{AreAnswers, IsImageSince}
@@ -46,9 +46,8 @@ split_last (x ∷ xs) (y ∷ ys) b r rs e =
 
 pub each_opened : (calls : List DiskCall) (turns : List Turn) (found : List Batch) → found_of turns ≡ found → batches_of turns ≡ found → appended_of turns ≡ []
     → batches_of turns ++ unacknowledged_of turns ≡ found
-    → ((first : List ℕ) → AreAnswers first calls → AreKept first calls first_tables found 1 found found) → KeepsEach calls turns
+    → ((first : List ℕ) → AreAnswers first calls → AreKept first calls first_tables found 1 found found) → KeepsEach (length calls) calls turns
 each_opened calls turns found found_is batches none all kept = record {
-  was = length calls;
   past = (let n : length (appended_of turns) ≡ 0 = ap (λ (bs : List Batch). length bs) none in omega (arith, n));
   made = λ whole. (let n : length (appended_of turns) ≡ 0 = ap (λ (bs : List Batch). length bs) none in omega (arith, n));
   each = λ first answers before after split. first_of first answers before after (sym none ∙ split);
@@ -65,28 +64,27 @@ each_opened calls turns found found_is batches none all kept = record {
 
 -- ---- a turn that neither writes nor breaks
 
-pub each_same : (calls : List DiskCall) (old new : List Turn) → found_of new ≡ found_of old → batches_of new ≡ batches_of old → appended_of new ≡ appended_of old
-    → batches_of new ++ unacknowledged_of new ≡ batches_of old ++ unacknowledged_of old → (state_of new).broken ≡ (state_of old).broken → KeepsEach calls old
-    → KeepsEach calls new
-each_same calls old new found batches appended all broken e = record {
-  was = e.was;
-  past = subst (λ (bs : List Batch). e.was + 4 * length bs ≤ length calls) (sym appended) e.past;
-  made = λ whole. e.made (sym broken ∙ whole) ∙ ap (λ (bs : List Batch). e.was + 4 * length bs) (sym appended);
+pub each_same : (was : ℕ) (calls : List DiskCall) (old new : List Turn) → found_of new ≡ found_of old → batches_of new ≡ batches_of old → appended_of new ≡ appended_of old
+    → batches_of new ++ unacknowledged_of new ≡ batches_of old ++ unacknowledged_of old → (state_of new).broken ≡ (state_of old).broken → KeepsEach was calls old
+    → KeepsEach was calls new
+each_same was calls old new found batches appended all broken e = record {
+  past = subst (λ (bs : List Batch). was + 4 * length bs ≤ length calls) (sym appended) e.past;
+  made = λ whole. e.made (sym broken ∙ whole) ∙ ap (λ (bs : List Batch). was + 4 * length bs) (sym appended);
   each = λ first answers before after split.
-      kept_as first calls (e.was + 4 * length before) (found_of old ++ before) (found_of new ++ before) (batches_of old) (batches_of new)
+      kept_as first calls (was + 4 * length before) (found_of old ++ before) (found_of new ++ before) (batches_of old) (batches_of new)
       (batches_of old ++ unacknowledged_of old) (batches_of new ++ unacknowledged_of new) (ap (λ bs. bs ++ before) found) batches all
       (e.each first answers before after (sym appended ∙ split));
 }
 
 -- ---- an append
 
-module _ (calls_old calls : List DiskCall) (old new : List Turn) (b : Batch) (found : found_of new ≡ found_of old) (none : unacknowledged_of old ≡ [])
-    (answers_before : (first : List ℕ) → AreAnswers first calls → AreAnswers first calls_old) (e : KeepsEach calls_old old) where
+module _ (was : ℕ) (calls_old calls : List DiskCall) (old new : List Turn) (b : Batch) (found : found_of new ≡ found_of old) (none : unacknowledged_of old ≡ [])
+    (answers_before : (first : List ℕ) → AreAnswers first calls → AreAnswers first calls_old) (e : KeepsEach was calls_old old) where
   -- what was kept of the batches that were appended before
   earlier : (first : List ℕ) → AreAnswers first calls → (before after : List Batch) → appended_of old ≡ before ++ after
-      → AreKept first calls_old first_tables (found_of new ++ before) (e.was + 4 * length before) (batches_of old) (batches_of old)
+      → AreKept first calls_old first_tables (found_of new ++ before) (was + 4 * length before) (batches_of old) (batches_of old)
   earlier first answers before after split =
-      kept_as first calls_old (e.was + 4 * length before) (found_of old ++ before) (found_of new ++ before) (batches_of old) (batches_of old)
+      kept_as first calls_old (was + 4 * length before) (found_of old ++ before) (found_of new ++ before) (batches_of old) (batches_of old)
       (batches_of old ++ unacknowledged_of old) (batches_of old) (ap (λ bs. bs ++ before) found) refl
       (sym (append-nil (batches_of old)) ∙ ap (λ bs. batches_of old ++ bs) (sym none)) (e.each first (answers_before first answers) before after split)
 
@@ -95,43 +93,41 @@ module _ (calls_old calls : List DiskCall) (old new : List Turn) (b : Batch) (fo
       → batches_of new ++ unacknowledged_of new ≡ batches_of old ++ b ∷ [] → (state_of old).broken ≡ false → length calls ≡ length calls_old + 4
       → StayKept calls_old calls first_tables (batches_of old) (b ∷ []) (Ok tt)
       → ((first : List ℕ) → AreAnswers first calls → AreKept first calls first_tables (found_of new) 1 (batches_of old ++ b ∷ []) (batches_of old ++ b ∷ []))
-      → KeepsEach calls new
+      → KeepsEach was calls new
   each_appended batches appended all_of all whole four stays kept =
       let longer : length (appended_of new) ≡ length (appended_of old) + 1 = ap (λ (bs : List Batch). length bs) appended ∙ length-append (appended_of old) (b ∷ []) in
-      let now : length calls ≡ e.was + 4 * length (appended_of new) = omega (arith, e.made whole, longer, four) in
+      let now : length calls ≡ was + 4 * length (appended_of new) = omega (arith, e.made whole, longer, four) in
       record {
-        was = e.was;
         past = omega (arith, now);
         made = λ still. now;
         each = λ first answers before after split. each_of now first answers before after split;
       }
     where
-      each_of : length calls ≡ e.was + 4 * length (appended_of new) → (first : List ℕ) → AreAnswers first calls → (before after : List Batch)
+      each_of : length calls ≡ was + 4 * length (appended_of new) → (first : List ℕ) → AreAnswers first calls → (before after : List Batch)
           → appended_of new ≡ before ++ after
-          → AreKept first calls first_tables (found_of new ++ before) (e.was + 4 * length before) (batches_of new) (batches_of new ++ unacknowledged_of new)
+          → AreKept first calls first_tables (found_of new ++ before) (was + 4 * length before) (batches_of new) (batches_of new ++ unacknowledged_of new)
       each_of now first answers before [] split =
           let is : appended_of new ≡ before = split ∙ append-nil before in
-          let moment : e.was + 4 * length before ≡ length calls = ap (λ (bs : List Batch). e.was + 4 * length bs) (sym is) ∙ sym now in
-          kept_as first calls (e.was + 4 * length before) (batches_of old ++ b ∷ []) (found_of new ++ before) (batches_of old ++ b ∷ [])
+          let moment : was + 4 * length before ≡ length calls = ap (λ (bs : List Batch). was + 4 * length bs) (sym is) ∙ sym now in
+          kept_as first calls (was + 4 * length before) (batches_of old ++ b ∷ []) (found_of new ++ before) (batches_of old ++ b ∷ [])
           (batches_of new) (batches_of old ++ b ∷ []) (batches_of new ++ unacknowledged_of new)
           (ap (λ bs. found_of new ++ bs) (sym is) ∙ sym all_of ∙ batches) batches all
-          (kept_now first calls (found_of new) 1 (batches_of old ++ b ∷ []) (batches_of old ++ b ∷ []) (e.was + 4 * length before) moment (kept first answers))
+          (kept_now first calls (found_of new) 1 (batches_of old ++ b ∷ []) (batches_of old ++ b ∷ []) (was + 4 * length before) moment (kept first answers))
       each_of now first answers before (r ∷ rs) split =
           let part : (zs : List Batch) × (appended_of old ≡ before ++ zs) = split_last (appended_of old) before b r rs (sym appended ∙ split) in
-          kept_as first calls (e.was + 4 * length before) (found_of new ++ before) (found_of new ++ before) (batches_of old ++ b ∷ [])
+          kept_as first calls (was + 4 * length before) (found_of new ++ before) (found_of new ++ before) (batches_of old ++ b ∷ [])
           (batches_of new) (batches_of old ++ b ∷ []) (batches_of new ++ unacknowledged_of new) refl batches all
-          (stays first (found_of new ++ before) (e.was + 4 * length before) answers (earlier first answers before part.0 part.1))
+          (stays first (found_of new ++ before) (was + 4 * length before) answers (earlier first answers before part.0 part.1))
 
   -- it failed
   pub each_lost : (fault : DiskFault) → batches_of new ≡ batches_of old → appended_of new ≡ appended_of old
       → batches_of new ++ unacknowledged_of new ≡ batches_of old ++ b ∷ [] → (state_of new).broken ≡ true → length calls_old ≤ length calls
-      → StayKept calls_old calls first_tables (batches_of old) (b ∷ []) (Err fault) → KeepsEach calls new
+      → StayKept calls_old calls first_tables (batches_of old) (b ∷ []) (Err fault) → KeepsEach was calls new
   each_lost fault batches appended all broken later stays = record {
-    was = e.was;
-    past = subst (λ (bs : List Batch). e.was + 4 * length bs ≤ length calls) (sym appended) (omega (arith, e.past, later));
+    past = subst (λ (bs : List Batch). was + 4 * length bs ≤ length calls) (sym appended) (omega (arith, e.past, later));
     made = λ whole. absurd (true≢false (sym broken ∙ whole));
     each = λ first answers before after split.
-        kept_as first calls (e.was + 4 * length before) (found_of new ++ before) (found_of new ++ before) (batches_of old) (batches_of new)
+        kept_as first calls (was + 4 * length before) (found_of new ++ before) (found_of new ++ before) (batches_of old) (batches_of new)
         (batches_of old ++ b ∷ []) (batches_of new ++ unacknowledged_of new) refl batches all
-        (stays first (found_of new ++ before) (e.was + 4 * length before) answers (earlier first answers before after (sym appended ∙ split)));
+        (stays first (found_of new ++ before) (was + 4 * length before) answers (earlier first answers before after (sym appended ∙ split)));
   }

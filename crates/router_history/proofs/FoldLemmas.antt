@@ -14,7 +14,7 @@ use Rattle.delivery_duties.specs.Retry.{Attempt, begun, retried, too_long, verdi
 use Rattle.delivery_duties.specs.Duties.{Duties, pending_row, replaced, failed, has_dead_letter_queue, added_one, added, marked_row, settled_by, settled_row}
 use Rattle.delivery_duties.specs.Duties.{settled, attempt_of}
 use Rattle.router_core.specs.Batch.{Batch, Entry, control, accepted, attempt, messages_deleted}
-use Rattle.router_core.specs.Tables.{Tables, first_tables, duties_after, after_entry, after_entries, after_batch, tables_after}
+use Rattle.router_core.specs.Tables.{Tables, first_tables, duties_after, after_entry, after_entries, purged_at, after_batch, tables_after}
 use Rattle.router_history.specs.History.{Ask, opens, asked, claims, records, puts_back, breaks, found_by, Turn, State, after_change, after_turn, state_after, state_of}
 use Rattle.router_history.specs.History.{IsTurnFor, AreTurnsFrom, batches_of, with_written, begun_with, after_all, after_written}
 use Rattle.router_history.specs.Folds.{unclaimed_entry, without_claims}
@@ -141,7 +141,7 @@ entries_freed moment (e ∷ es) t = entries_freed moment es (after_entry moment 
 
 pub batch_freed : (b : Batch) (t : Tables) → without_claims (after_batch b t) ≡ after_batch b (without_claims t)
 batch_freed b t =
-    ap (λ (now : Tables). record now { batches = t.batches + 1; moment = max t.moment b.moment }) (entries_freed b.moment b.entries t)
+    ap (λ (now : Tables). record (purged_at b.moment now) { batches = t.batches + 1; moment = max t.moment b.moment }) (entries_freed b.moment b.entries t)
 
 written_freed : (b : Option Batch) (s : State) (bs : List Batch)
     → tables_after bs (without_claims (after_change b s).tables) ≡ tables_after (with_written b bs) (without_claims s.tables)

@@ -1,6 +1,6 @@
 -- A book's journal through its turns: `broken_at` (the mark and the journal agree), `can_append` (a batch may be appended), `home_same` (a turn without
 -- a batch), `home_appended` (a batch was appended) and `home_lost` (its append failed).
-use Rattle.std.proofs.Common.{◌≡◌, ℕ, Bool, true, false, List, [], ◌∷◌, ◌++◌, Option, Some, None, Result, Ok, Err, refl, sym, ap, ◌∙◌, subst, append-nil}
+use Rattle.std.proofs.Common.{◌≡◌, ℕ, ◌+◌, true, false, List, [], ◌∷◌, ◌++◌, length, Option, Some, None, Result, Ok, Err, refl, sym, ap, ◌∙◌, subst, arith, append_assoc, append-nil, length-append}
 use Rattle.std.specs.Prelude.{IsOk, IsSome, OnOk, OnErr, is_err, if◌then◌else◌}
 use Rattle.std.specs.List.{AllByRecursion}
 use Rattle.std.proofs.lemmas.Bool.{true≢false}
@@ -24,7 +24,7 @@ use Rattle.duty_journal.specs.Named.{AreNamedByArns}
 use Rattle.duty_journal.proofs.JournalLemmas.{recordable_front}
 use Rattle.duty_journal.proofs.NamedLemmas.{named_first, named_after}
 use Rattle.router_history.specs.Folds.{without_claims}
-use Rattle.router_history.specs.History.{Turn, State, Ask, breaks, state_of, batches_of, unacknowledged_by, unacknowledged_of}
+use Rattle.router_history.specs.History.{OpenedDisk, Turn, State, Ask, breaks, state_of, batches_of, unacknowledged_by, unacknowledged_of}
 use Rattle.router_history.specs.Book.{IsBook}
 use Rattle.router_history.specs.Home.{IsHeld, IsHome, found_of, appended_of}
 use Rattle.router_history.specs.Answered.{IsAdded}
@@ -102,12 +102,13 @@ home_same calls faults old new (Journal j) ask h h_new (turn, is, wrote, turns) 
       broken = held.broken ∙ sym broken;
       opened = held.opened;
       disk = disk_one old new turn h h_new turns ∙ held.disk;
+      began = held.began;
       rose = λ is_broken. held.rose (sym broken ∙ is_broken);
       same = λ whole. held.same (sym broken ∙ whole);
       kept = λ first answers.
           kept_as first (calls j.file.disk) 1 (found_of old) (found_of new) (batches_of old) (batches_of new) (batches_of old ++ unacknowledged_of old)
           (batches_of new ++ unacknowledged_of new) (found_one old new turn h turns) batches all (held.kept first answers);
-      each = each_same (calls j.file.disk) old new (found_one old new turn h turns) batches
+      each = each_same (length held.opened.calls) (calls j.file.disk) old new (found_one old new turn h turns) batches
           (appended_one old new turn ask None h h_new is wrote turns ∙ append-nil (appended_of old)) all broken held.each;
     }
 
@@ -115,6 +116,15 @@ home_same calls faults old new (Journal j) ask h h_new (turn, is, wrote, turns) 
 pub home_alone : {D : Type 0} (calls : D → List DiskCall) (faults : D → ℕ) (old new : List Turn) (home : Home D) → new ≡ old → IsHome calls faults old home
     → IsHome calls faults new home
 home_alone calls faults old new home same is = subst (λ (ts : List Turn). IsHome calls faults ts home) (sym same) is
+
+-- more calls after those that there were
+longer : (old new more : List DiskCall) → new ≡ old ++ more → length new ≡ length old + length more
+longer old new more is = ap (λ (cs : List DiskCall). length cs) is ∙ length-append old more
+
+began_more : (first old new : List DiskCall) → ((later : List DiskCall) × (old ≡ first ++ later)) → ((more : List DiskCall) × (new ≡ old ++ more))
+    → (later : List DiskCall) × (new ≡ first ++ later)
+began_more first old new (later, began) (more, grown) =
+    (later ++ more, grown ∙ ap (λ (cs : List DiskCall). cs ++ more) began ∙ append_assoc first later more)
 
 -- a batch was appended, and its turn made
 pub home_appended : {D : Type 0} (calls : D → List DiskCall) (faults : D → ℕ) (old new : List Turn) (tables : Tables) (home home_new : Home D) (ask : Ask) (b : Batch)
@@ -132,6 +142,7 @@ home_appended {D} calls faults old new tables (Journal j) home_new ask b result 
     let are : AreRecordable first_tables (journal.batches_of j ++ b ∷ []) =
     kept.recordable first_tables (subst (AreRecordable first_tables) (sym held.batches) front)
     (subst (λ (bs : List Batch). IsAdmitted (tables_after bs first_tables) b) (sym held.batches) (history_admits old tables b h is admitted)) in
+    let made = subst (λ (r : Result (Unit {0}) DiskFault). MadeCalls (calls j.file.disk) (calls k.file.disk) r) ok kept.appended.made in
     let more : batches_of new ≡ journal.batches_of j ++ b ∷ [] = batches ∙ ap (λ bs. bs ++ b ∷ []) (sym held.batches) in
     let all : batches_of new ++ unacknowledged_of new ≡ batches_of old ++ b ∷ [] =
     ap (λ bs. batches_of new ++ bs) none ∙ append-nil (batches_of new) ∙ batches in
@@ -153,14 +164,15 @@ home_appended {D} calls faults old new tables (Journal j) home_new ask b result 
       broken = kept.appended.broken ∙ no_err ∙ sym unbroken;
       opened = held.opened;
       disk = disk_one old new turn h h_new turns ∙ held.disk;
+      began = began_more held.opened.calls (calls j.file.disk) (calls k.file.disk) held.began (made.0, made.1);
       rose = λ is_broken. absurd (true≢false (sym is_broken ∙ unbroken));
       same = λ still. same_count (kept.appended.count (held.broken ∙ whole)) ∙ held.same whole;
       kept = λ first answers.
           kept_as first (calls k.file.disk) 1 (found_of new) (found_of new) (batches_of old ++ b ∷ []) (batches_of new) (batches_of old ++ b ∷ [])
           (batches_of new ++ unacknowledged_of new) refl batches all (kept_all first answers);
-      each = each_appended (calls j.file.disk) (calls k.file.disk) old new b found (none_unacknowledged old h.legal whole) kept.appended.answers held.each batches
-          (appended_one old new turn ask (Some b) h h_new made_for wrote turns) (batches_split new h_new) all whole
-          (subst (λ (r : Result (Unit {0}) DiskFault). MadeCalls (calls j.file.disk) (calls k.file.disk) r) ok kept.appended.made) stays kept_all;
+      each = each_appended (length held.opened.calls) (calls j.file.disk) (calls k.file.disk) old new b found (none_unacknowledged old h.legal whole)
+          kept.appended.answers held.each batches (appended_one old new turn ask (Some b) h h_new made_for wrote turns) (batches_split new h_new) all whole
+          (longer (calls j.file.disk) (calls k.file.disk) made.0 made.1 ∙ ap (λ n. length (calls j.file.disk) + n) made.2) stays kept_all;
     })
   where
     same_count : CountsFaults (faults j.file.disk) (faults k.file.disk) result → faults k.file.disk ≡ faults j.file.disk
@@ -187,6 +199,7 @@ home_lost {D} calls faults old new (Journal j) home_new b tables result fault er
     (subst (λ (bs : List Batch). IsAdmitted (tables_after bs first_tables) b) (sym held.batches) (history_admits old tables b h is admitted)) in
     let all : batches_of new ++ unacknowledged_of new ≡ batches_of old ++ b ∷ [] =
     ap (λ bs. bs ++ unacknowledged_of new) batches ∙ ap (λ bs. batches_of old ++ bs) unsure in
+    let made = subst (λ (r : Result (Unit {0}) DiskFault). MadeCalls (calls j.file.disk) (calls k.file.disk) r) err kept.appended.made in
     let is_error : is_err result ≡ true = ap (λ (r : Result (Unit {0}) DiskFault). is_err r) err in
     let broken : (state_of new).broken ≡ true = ap (λ (s : State). s.broken) (after_one old new turn (breaks (b ∷ [])) made_for turns) in
     let rose : Rose (faults j.file.disk) (faults k.file.disk) =
@@ -203,15 +216,17 @@ home_lost {D} calls faults old new (Journal j) home_new b tables result fault er
       broken = kept.appended.broken ∙ is_error ∙ sym broken;
       opened = held.opened;
       disk = disk_one old new turn h h_new turns ∙ held.disk;
+      began = began_more held.opened.calls (calls j.file.disk) (calls k.file.disk) held.began made;
       rose = λ is_broken. subst (λ n. Rose n (faults k.file.disk)) (held.same whole) rose;
       same = λ still. absurd (true≢false (sym broken ∙ still));
       kept = λ first answers.
           kept_as first (calls k.file.disk) 1 (found_of old) (found_of new) (batches_of old) (batches_of new) (batches_of old ++ b ∷ [])
           (batches_of new ++ unacknowledged_of new) found batches all
           (stays first (found_of old) 1 answers (all_held calls faults old j h whole held first (kept.appended.answers first answers)));
-      each = each_lost (calls j.file.disk) (calls k.file.disk) old new b found (none_unacknowledged old h.legal whole) kept.appended.answers held.each fault batches
+      each = each_lost (length held.opened.calls) (calls j.file.disk) (calls k.file.disk) old new b found (none_unacknowledged old h.legal whole)
+          kept.appended.answers held.each fault batches
           (appended_one old new turn (breaks (b ∷ [])) None h h_new made_for wrote turns ∙ append-nil (appended_of old)) all broken
-          (subst (λ (r : Result (Unit {0}) DiskFault). MadeCalls (calls j.file.disk) (calls k.file.disk) r) err kept.appended.made) stays;
+          (omega (arith, longer (calls j.file.disk) (calls k.file.disk) made.0 made.1)) stays;
     })
 
 -- a book that breaks has a journal
@@ -222,4 +237,4 @@ lost_journal calls faults turns Nowhere home_new b result fault err none (same, 
   where
     failed : IsOk {T = Unit {0}} (Err fault) → ⊥
     failed is = absurd (cc)
-lost_journal calls faults turns (Journal j) home_new b result fault err held kept = subst (λ (d : Option ℕ). IsSome d) (sym held.disk) refl
+lost_journal calls faults turns (Journal j) home_new b result fault err held kept = subst (λ (d : Option OpenedDisk). IsSome d) (sym held.disk) refl

@@ -16,7 +16,6 @@ use Rattle.delivery_duties.specs.Duties.{settled_by, settled_row, attempt_of}
 use Rattle.router_core.specs.Batch.{Batch, Entry, control, accepted, attempt, messages_deleted}
 use Rattle.router_core.specs.Tables.{Tables, duties_after, after_entry, after_entries}
 use Rattle.router_core.specs.Request.{Action}
-use Rattle.rule_table.specs.RuleSet.{RuleSet}
 use Rattle.router_calls.proofs.FormLemmas.{IsOf, AreOf, WritesOf}
 use Rattle.router_history.specs.History.{State, after_change}
 use Rattle.router_history.proofs.PendingLemmas.{AreNumbered, row_number}
@@ -90,23 +89,23 @@ changed : (c : Control) (key : ℕ) (d : Duties) → key ≤ d.created → Keeps
 changed (bus_created name) key d known = (refl, known)
 changed _ key d known = (refl, known)
 
-entry_keeps : (set : RuleSet) (action : Action) (moment : ℕ) (e : Entry) (key : ℕ) (t : Tables) → IsOf set action e → key ≤ t.duties.created
+entry_keeps : (before : Tables) (action : Action) (moment : ℕ) (e : Entry) (key : ℕ) (t : Tables) → IsOf before action e → key ≤ t.duties.created
     → Keeps key t.duties (after_entry moment e t).duties
-entry_keeps set action moment (control c) key t is known = changed c key t.duties known
-entry_keeps set action moment (accepted e) key t is known = all_added e.duties moment key t.duties known
-entry_keeps set action moment (attempt duty outcome) key t is known = absurd is
-entry_keeps set action moment (messages_deleted queue through) key t is known = (refl, known)
+entry_keeps before action moment (control c) key t is known = changed c key t.duties known
+entry_keeps before action moment (accepted e) key t is known = all_added e.duties moment key t.duties known
+entry_keeps before action moment (attempt duty outcome) key t is known = absurd is
+entry_keeps before action moment (messages_deleted queue through) key t is known = (refl, known)
 
-entries_keep : (set : RuleSet) (action : Action) (moment : ℕ) (es : List Entry) (key : ℕ) (t : Tables) → AreOf set action es → key ≤ t.duties.created
+entries_keep : (before : Tables) (action : Action) (moment : ℕ) (es : List Entry) (key : ℕ) (t : Tables) → AreOf before action es → key ≤ t.duties.created
     → Keeps key t.duties (after_entries moment es t).duties
-entries_keep set action moment [] key t are known = (refl, known)
-entries_keep set action moment (e ∷ es) key t are known =
-    let first = entry_keeps set action moment e key t are.0 known in
-    let rest = entries_keep set action moment es key (after_entry moment e t) are.1 first.1 in
+entries_keep before action moment [] key t are known = (refl, known)
+entries_keep before action moment (e ∷ es) key t are known =
+    let first = entry_keeps before action moment e key t are.0 known in
+    let rest = entries_keep before action moment es key (after_entry moment e t) are.1 first.1 in
     (rest.0 ∙ first.0, rest.1)
 
 -- the row of a duty after a batch of a request, which records no attempt
-pub written_keeps : (set : RuleSet) (action : Action) (b : Option Batch) (key : ℕ) (s : State) → WritesOf set action b → key ≤ s.tables.duties.created
+pub written_keeps : (before : Tables) (action : Action) (b : Option Batch) (key : ℕ) (s : State) → WritesOf before action b → key ≤ s.tables.duties.created
     → pending_row key (after_change b s).tables.duties ≡ pending_row key s.tables.duties
-written_keeps set action None key s of known = refl
-written_keeps set action (Some b) key s of known = (entries_keep set action b.moment b.entries key s.tables of known).0
+written_keeps before action None key s of known = refl
+written_keeps before action (Some b) key s of known = (entries_keep before action b.moment b.entries key s.tables of known).0

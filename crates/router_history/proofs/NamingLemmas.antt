@@ -1,5 +1,5 @@
 -- The duties of an answer's events name their rules, if the rules are named by the ends of their ARNs: `BatchNames`, `answer_names`.
-use Rattle.std.proofs.Common.{◌≡◌, ℕ, ◌+◌, Bool, true, false, cond, ◌⊎◌, inl, inr, List, [], ◌∷◌, ◌++◌, map, Option, Some, None, Result, Ok, Err, refl, sym, ap, ◌∙◌, subst}
+use Rattle.std.proofs.Common.{◌≡◌, ℕ, ◌+◌, Bool, true, false, cond, inl, inr, List, [], ◌∷◌, map, Option, Some, None, Result, Ok, Err, refl, sym, subst}
 use Rattle.std.specs.Prelude.{All, nat_lt}
 use Rattle.std.specs.List.{AllByRecursion}
 use Rattle.std.proofs.lemmas.List.Elements.{All-nil, All-cons, All-head, All-tail, All-append}
@@ -85,7 +85,7 @@ HasNames (Err c) = Unit {0}
 placed_names : (k n : ℕ) (time : List ℕ) (entry : Given) (found : Found) (p : Placed) → All IsNamedTarget found.targets → IsPlaced k n time entry found p → HasNames p
 placed_names k n time (Ok event) found p all is = by found.verdict p is
   where
-    by : (verdict : SeenVerdict) (p : Placed) → IsEventPlaced k n time event verdict found.targets p → HasNames p
+    by : (verdict : SeenVerdict) (p : Placed) → IsEventPlaced k n time event verdict found.targets found.archives p → HasNames p
     by Allowed p (a, accepts, same) = subst HasNames (sym same) (duties_named (numbered_tree n event) time found.targets a.duties all accepts.duties)
     by NoBus p same = subst HasNames (sym same) tt
     by (DeniedBy name) p same = subst HasNames (sym same) tt
@@ -94,12 +94,13 @@ placed_names k n time (Ok event) found p all is = by found.verdict p is
 placed_names k n time (Err fault) found p all same = subst HasNames (sym same) tt
 
 all_names : (k n : ℕ) (time : List ℕ) (set : RuleSet) (caller : List ℕ) (entries : List Given) (seen : List SeenEntry) (placed : List Placed) → AreNamedByArns set
-    → AreSeenEntries set caller entries seen → ArePlaced k n time entries (map found_of seen) placed → AllByRecursion NamesRules (map batch.accepted (events_in placed))
+    → AreSeenEntries set caller entries seen → ArePlaced k n time entries (map (found_of set) seen) placed
+    → AllByRecursion NamesRules (map batch.accepted (events_in placed))
 all_names k n time set caller [] seen placed all are none = subst (λ (ps : List Placed). AllByRecursion NamesRules (map batch.accepted (events_in ps))) (sym none) tt
 all_names k n time set caller (entry ∷ entries) [] placed all are is = absurd are
 all_names k n time set caller (entry ∷ entries) (s ∷ seen) [] all are is = absurd is
 all_names k n time set caller (entry ∷ entries) (s ∷ seen) (p ∷ placed) all are is =
-    let one : HasNames p = placed_names k n time entry (found_of s) p (of_verdict set entry s.verdict s.targets.items all are.0.targets) is.0 in
+    let one : HasNames p = placed_names k n time entry (found_of set s) p (of_verdict set entry s.verdict s.targets.items all are.0.targets) is.0 in
     with_one p one (all_names k (number_after n p) time set caller entries seen placed all are.1 is.1)
   where
     with_one : (p : Placed) → HasNames p → AllByRecursion NamesRules (map batch.accepted (events_in placed)) → AllByRecursion NamesRules (map batch.accepted (events_in (p ∷ placed)))
@@ -107,12 +108,12 @@ all_names k n time set caller (entry ∷ entries) (s ∷ seen) (p ∷ placed) al
     with_one (Err c) one rest = rest
 
 -- operations of another request than a PutEvents
-others_names : (set : RuleSet) (action : Action) (es : List batch.Entry) → (IsPublishing action → ⊥) → AreOf set action es → AllByRecursion NamesRules es
-others_names set action [] other of = tt
-others_names set action (batch.control c ∷ es) other of = (tt, others_names set action es other of.1)
-others_names set action (batch.accepted e ∷ es) other of = absurd (other of.0)
-others_names set action (batch.attempt duty outcome ∷ es) other of = absurd of.0
-others_names set action (batch.messages_deleted queue through ∷ es) other of = (tt, others_names set action es other of.1)
+others_names : (t : Tables) (action : Action) (es : List batch.Entry) → (IsPublishing action → ⊥) → AreOf t action es → AllByRecursion NamesRules es
+others_names t action [] other of = tt
+others_names t action (batch.control c ∷ es) other of = (tt, others_names t action es other of.1)
+others_names t action (batch.accepted e ∷ es) other of = absurd (other of.0)
+others_names t action (batch.attempt duty outcome ∷ es) other of = absurd of.0
+others_names t action (batch.messages_deleted queue through ∷ es) other of = (tt, others_names t action es other of.1)
 
 -- the batch of an answer, if it has one
 abbrev pub BatchNames : Option Batch → Type 0
@@ -127,9 +128,9 @@ written_names : (t : Tables) (moment : ℕ) (es : List batch.Entry) (reply : Rep
 written_names t moment [] reply names = tt
 written_names t moment (e ∷ es) reply names = either_names (is_full t) _ _ tt names
 
-other_names : (set : RuleSet) (action : Action) (b : Option Batch) → (IsPublishing action → ⊥) → WritesOf set action b → BatchNames b
-other_names set action None other of = tt
-other_names set action (Some b) other of = others_names set action b.entries other of
+other_names : (t : Tables) (action : Action) (b : Option Batch) → (IsPublishing action → ⊥) → WritesOf t action b → BatchNames b
+other_names t action None other of = tt
+other_names t action (Some b) other of = others_names t action b.entries other of
 
 published_names : (t : Tables) (caller : List ℕ) (k : ℕ) (time : List ℕ) (entries : List Given) (size : ℕ) (seen : SeenResult) (placed : List Placed)
     → AreNamedByArns t.set → IsSeenResult t.set caller (put_events entries size) seen → HasPlaced t k time seen (put_events entries size) placed
@@ -144,12 +145,12 @@ published_names t caller k time entries size (Tested matches) placed are is has 
 published_names t caller k time entries size Nothing placed are is has = absurd is
 
 by_action : (action : Action) (t : Tables) (caller : List ℕ) (k : ℕ) (time : List ℕ) (seen : SeenResult) (placed : List Placed) (policy : Option Tree) (moment : ℕ)
-    (a : Answer) → AreNamedByArns t.set → IsSeenResult t.set caller action seen → HasPlaced t k time seen action placed → WritesOf t.set action a.batch
-    → a ≡ answer_at t moment (decided t seen placed policy action) → BatchNames a.batch
+    (a : Answer) → AreNamedByArns t.set → IsSeenResult t.set caller action seen → HasPlaced t k time seen action placed → WritesOf t action a.batch
+    → a ≡ answer_at t moment (decided t moment seen placed policy action) → BatchNames a.batch
 by_action (put_events entries size) t caller k time seen placed policy moment a are is has of same =
     subst (λ (x : Answer). BatchNames x.batch) (sym same)
     (written_names t moment (publication placed size).entries (publication placed size).reply (published_names t caller k time entries size seen placed are is has))
-by_action action t caller k time seen placed policy moment a are is has of same = other_names t.set action a.batch (λ publishes. publishes) of
+by_action action t caller k time seen placed policy moment a are is has of same = other_names t action a.batch (λ publishes. publishes) of
 
 -- the batch that answers a request on the tables' own rule set
 pub answer_names : (t : Tables) (r : Request) (k : ℕ) (a : Answer) → AreNamedByArns t.set → IsAnswer t r k t.set a → BatchNames a.batch

@@ -1,5 +1,6 @@
 -- A book that was just opened: `opened_turns`, `opened_machine`, `opened_home`; the first book, `none_found`.
-use Rattle.std.proofs.Common.{◌≡◌, ℕ, true, false, List, [], ◌∷◌, ◌++◌, Option, Some, None, refl, sym, ap, ◌∙◌, subst, append-nil}
+use Rattle.std.proofs.Common.{◌≡◌, ℕ, false, List, [], ◌∷◌, ◌++◌, Option, Some, None, refl, sym, ap, ◌∙◌, subst, append-nil}
+use Rattle.std.specs.Option.{option_map}
 use Rattle.std.proofs.lemmas.Bool.{true≢false}
 use Rattle.router_disk.specs.declared.disk_call.DiskCall.{DiskCall}
 use Rattle.router_disk.specs.Disk.{AreAnswers}
@@ -11,12 +12,13 @@ use Rattle.duty_journal.specs.declared.recover.Found.{Found}
 use Rattle.duty_journal.specs.Journal as journal
 use Rattle.duty_journal.specs.Journal.{AreRecordable, IsSoundJournal}
 use Rattle.duty_journal.specs.Recovery.{HasOpened, IsFound, batches_found}
+use Rattle.router_history.specs.declared.opened_disk.OpenedDisk.{OpenedDisk as CodeDisk}
 use Rattle.router_history.specs.declared.history.Ask.{Ask as CodeAsk}
 use Rattle.router_history.specs.declared.history.Turn.{Turn as CodeTurn}
 use Rattle.router_history.specs.declared.history.Written.{Written}
 use Rattle.router_history.specs.declared.book.Machine.{Machine}
-use Rattle.router_history.specs.History.{Turn, State, AreLawful, IsLegal, begun_with, batches_of, state_of, unacknowledged_of}
-use Rattle.router_history.specs.Book.{turns_of, opening_on, IsBook, IsSoundMachine}
+use Rattle.router_history.specs.History.{OpenedDisk, Turn, State, AreLawful, IsLegal, begun_with, batches_of, state_of, unacknowledged_of}
+use Rattle.router_history.specs.Book.{turns_of, as_opened, opened_of, opening_on, IsBook, IsSoundMachine}
 use Rattle.router_history.specs.Home.{IsHeld, found_of, appended_of}
 use Rattle.router_history.proofs.SteadyLemmas.{found_disk, found_whole}
 use Rattle.router_history.proofs.FoldLemmas.{found_tables}
@@ -24,7 +26,7 @@ use Rattle.router_history.proofs.EachLemmas.{kept_as, each_opened}
 
 -- ---- the machine
 
-pub opened_turns : (old new : List Turn) (found : List Batch) (disk : Option ℕ) → old ≡ [] → new ≡ old ++ opening_on found disk ∷ [] → new ≡ opening_on found disk ∷ []
+pub opened_turns : (old new : List Turn) (found : List Batch) (disk : Option OpenedDisk) → old ≡ [] → new ≡ old ++ opening_on found disk ∷ [] → new ≡ opening_on found disk ∷ []
 opened_turns old new found disk none turns = turns ∙ ap (λ (ts : List Turn). ts ++ opening_on found disk ∷ []) none
 
 -- the opening turn is no pass's
@@ -38,7 +40,7 @@ recordable_lawful : (t : Tables) (bs : List Batch) → AreRecordable t bs → Ar
 recordable_lawful t [] are = tt
 recordable_lawful t (b ∷ bs) (readable, admitted, more) = (admitted, recordable_lawful (after_batch b t) bs more)
 
-book_opened : (turns : List Turn) (found : List Batch) (disk : Option ℕ) → turns ≡ opening_on found disk ∷ [] → AreLawful first_tables found
+book_opened : (turns : List Turn) (found : List Batch) (disk : Option OpenedDisk) → turns ≡ opening_on found disk ∷ [] → AreLawful first_tables found
     → (disk ≡ None → found ≡ []) → IsBook turns
 book_opened turns found disk is lawful none = record {
   found = found;
@@ -62,12 +64,19 @@ book_opened turns found disk is lawful none = record {
   );
 }
 
-pub opened_machine : (m : Machine) (f : Found) (disk : Option ℕ) → turns_of m ≡ opening_on (batches_found f) disk ∷ [] → m.tables ≡ f.tables → IsFound first_tables f
-    → (disk ≡ None → batches_found f ≡ []) → IsSoundMachine m
-opened_machine m f disk turns tables is none = record {
-  book = book_opened (turns_of m) (batches_found f) disk turns (recordable_lawful first_tables (batches_found f) is.recordable) none;
-  tables = ap (λ (ts : List Turn). (state_of ts).tables) turns ∙ found_tables (batches_found f) (begun_with disk first_tables) ∙ sym is.tables ∙ sym tables;
-}
+none_opened : (disk : Option CodeDisk) → option_map opened_of disk ≡ None → disk ≡ None
+none_opened None none = refl
+none_opened (Some d) none = absurd (cc (none))
+
+pub opened_machine : (m : Machine) (f : Found) (disk : Option CodeDisk) → turns_of m ≡ opening_on (batches_found f) (option_map opened_of disk) ∷ []
+    → m.tables ≡ f.tables → IsFound first_tables f → (disk ≡ None → batches_found f ≡ []) → IsSoundMachine m
+opened_machine m f disk turns tables is none =
+    let first : Option OpenedDisk = option_map opened_of disk in
+    record {
+      book = book_opened (turns_of m) (batches_found f) first turns (recordable_lawful first_tables (batches_found f) is.recordable)
+          (λ nowhere. none (none_opened disk nowhere));
+      tables = ap (λ (ts : List Turn). (state_of ts).tables) turns ∙ found_tables (batches_found f) (begun_with first first_tables) ∙ sym is.tables ∙ sym tables;
+    }
 
 -- the first tables, on which nothing was found
 pub none_found : (f : Found) → batches_found f ≡ [] → f.tables ≡ first_tables → IsFound first_tables f
@@ -79,10 +88,11 @@ none_found f none tables = record {
 -- ---- its journal
 
 pub opened_home : {D : Type 0} (calls : D → List DiskCall) (faults : D → ℕ) (turns : List Turn) (j : journals.Journal D) (found : List Batch)
-    → turns ≡ opening_on found (Some (faults j.file.disk)) ∷ [] → AreRecordable first_tables found → journal.batches_of j ≡ found → j.file.broken ≡ false
+    → turns ≡ opening_on found (Some (as_opened calls faults j.file.disk)) ∷ [] → AreRecordable first_tables found → journal.batches_of j ≡ found → j.file.broken ≡ false
     → IsSoundJournal calls j → ((first : List ℕ) → AreAnswers first (calls j.file.disk) → HasOpened first (calls j.file.disk) found) → IsHeld calls faults turns j
 opened_home calls faults turns j found is are own whole sound has =
-    let first_state : State = begun_with (Some (faults j.file.disk)) first_tables in
+    let opened : OpenedDisk = as_opened calls faults j.file.disk in
+    let first_state : State = begun_with (Some opened) first_tables in
     let batches : batches_of turns ≡ found = ap batches_of is ∙ append-nil found in
     let none : unacknowledged_of turns ≡ [] = ap unacknowledged_of is in
     let all : batches_of turns ++ unacknowledged_of turns ≡ found = ap (λ bs. batches_of turns ++ bs) none ∙ append-nil (batches_of turns) ∙ batches in
@@ -92,8 +102,9 @@ opened_home calls faults turns j found is are own whole sound has =
       batches = own ∙ sym batches;
       recordable = subst (AreRecordable first_tables) (sym all) are;
       broken = whole ∙ sym unbroken;
-      opened = faults j.file.disk;
+      opened = opened;
       disk = ap (λ (ts : List Turn). (state_of ts).disk) is ∙ found_disk found first_state;
+      began = ([], sym (append-nil (calls j.file.disk)));
       rose = λ broken. absurd (true≢false (sym broken ∙ unbroken));
       same = λ still. refl;
       kept = λ first answers.

@@ -1,6 +1,6 @@
 -- A book after a step of its machine: `sound_alone` (no turn), `sound_same` (a turn without a batch), `sound_claimed`, `sound_appended` (a batch was appended),
 -- `sound_lost` (its append failed); `decided_can_append`, `attempt_can_append`, that a batch may be appended; `holds_broken`, a claim once the book is broken.
-use Rattle.std.proofs.Common.{◌≡◌, ℕ, true, false, List, [], ◌∷◌, ◌++◌, Option, Some, None, Result, Ok, Err, refl, sym, ap, ◌∙◌, subst}
+use Rattle.std.proofs.Common.{◌≡◌, ℕ, true, false, List, [], ◌∷◌, Option, Some, None, Result, Ok, Err, refl, sym, ap, ◌∙◌, subst}
 use Rattle.std.specs.Prelude.{IfOk, IfErr, IfSome, IfNone}
 use Rattle.router_disk.specs.declared.disk_call.DiskCall.{DiskCall}
 use Rattle.api_replies.specs.declared.reply.Reply.{Reply as CodeReply}

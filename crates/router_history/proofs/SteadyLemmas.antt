@@ -13,7 +13,7 @@ use Rattle.router_core.specs.Tables.{Tables, first_tables, after_entry, after_en
 use Rattle.router_core.specs.Request.{Request}
 use Rattle.router_calls.proofs.FormLemmas.{request_form}
 use Rattle.courier_run.specs.Claim.{Claim}
-use Rattle.router_history.specs.History.{Ask, opens, asked, claims, records, puts_back, breaks, Turn, State, OpenClaim, controls_in, claim_of, claims_of, without_pass}
+use Rattle.router_history.specs.History.{OpenedDisk, Ask, opens, asked, claims, records, puts_back, breaks, Turn, State, OpenClaim, controls_in, claim_of, claims_of, without_pass}
 use Rattle.router_history.specs.History.{last_version, after_change, after_ask, after_turn, after_all, after_written, state_after, state_of, begun, begun_with, with_claim, IsTurnFor, IsClaimBy, EndsClaim, AreTurnsFrom, IsLegal}
 use Rattle.router_history.proofs.PendingLemmas.{AreNumbered, entries_numbered, marked_numbered, marked_row_there, key_has}
 use Rattle.router_history.proofs.KeptLemmas.{marked_other, settled_other, written_keeps}
@@ -198,7 +198,7 @@ steady_asked turn s request (passed, named, (reply, is), unbroken) h =
     let d = s.tables.duties in
     let all : AreOpen (after_change turn.batch s).tables.duties (after_change turn.batch s).tables.moment s.open_claims =
     every_kept d (after_change turn.batch s).tables.duties s.tables.moment (after_change turn.batch s).tables.moment s.open_claims (moment_written turn.batch s)
-    (λ c o. written_keeps s.tables.set request.action turn.batch c.number s (request_form is.answer).writes
+    (λ c o. written_keeps s.tables request.action turn.batch c.number s (request_form is.answer).writes
     (key_has (λ k. k ≤ d.created) c.number o.row d.pending h.numbered.known o.pending))
     h.opened in
     record {
@@ -281,7 +281,7 @@ pub steady_after : (turns : List Turn) (s : State) → AreTurnsFrom s turns → 
 steady_after [] s legal h = h
 steady_after (turn ∷ turns) s legal h = steady_after turns (after_turn turn s) legal.1 (steady_ask turn turn.ask s legal.0 h)
 
-pub steady_begun : (disk : Option ℕ) → IsSteady (begun_with disk first_tables)
+pub steady_begun : (disk : Option OpenedDisk) → IsSteady (begun_with disk first_tables)
 steady_begun disk = record {
   numbered = record { sorted = tt; named = tt; known = tt };
   opened = tt;
@@ -328,7 +328,7 @@ broken_ask turn (asked request) s is none whole = broken_written turn.batch s �
 broken_ask turn (claims c) s is none whole = whole
 broken_ask turn (records a) s is none whole = broken_written turn.batch s ∙ whole
 broken_ask turn (puts_back c why) s is none whole = whole
-broken_ask turn (breaks unsure) s is none whole = let some : false ≡ true = subst (λ (d : Option ℕ). IsSome d) none is.journal in absurd (cc)
+broken_ask turn (breaks unsure) s is none whole = let some : false ≡ true = subst (λ (d : Option OpenedDisk). IsSome d) none is.journal in absurd (cc)
 
 -- without a journal no turn breaks the book
 pub whole_after : (turns : List Turn) (s : State) → AreTurnsFrom s turns → s.disk ≡ None → s.broken ≡ false → (state_after turns s).broken ≡ false

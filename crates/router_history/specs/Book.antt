@@ -1,11 +1,14 @@
 -- The views of the router's guarded state in contracts, and what holds of it.
 use Rattle.std.specs.Prelude.{◌≡◌, ℕ, ◌++◌, ◌∷◌, List, [], map, flat_map, Option, Some, None, All}
+use Rattle.std.specs.Option.{option_map}
+use Rattle.router_disk.specs.declared.disk_call.DiskCall.{DiskCall}
 use Rattle.duty_journal.specs.Journal.{batches_in}
 use Rattle.router_core.specs.Tables.{first_tables}
 use Rattle.router_core.specs.Batch.{Batch}
 use Rattle.router_core.specs.View.{request_of, batch_of}
 use Rattle.courier_run.specs.Steps as steps
 use Rattle.courier_run.specs.Claim.{Claim}
+use Rattle.router_history.specs.declared.opened_disk.OpenedDisk.{OpenedDisk}
 use Rattle.router_history.specs.declared.history.Ask.{Ask}
 use Rattle.router_history.specs.declared.history.Ask.TheVariants.{Opens, Asked, Claims, Records, PutsBack, Breaks}
 use Rattle.router_history.specs.declared.history.Why.{Why}
@@ -28,10 +31,20 @@ why_of Unsent = steps.unsent
 why_of Limited = steps.limited
 why_of Unkept = steps.unkept
 
+-- A disk as it is opened now, by what it shows.
+-- Shown by: proofs alone.
+abbrev pub as_opened : {D : Type 0} → (D → List DiskCall) → (D → ℕ) → D → view.OpenedDisk
+as_opened calls faults disk = record { faults = faults disk; calls = calls disk }
+
+-- What contracts see of the code's `OpenedDisk`.
+-- Shown by: proofs alone.
+abbrev pub opened_of : OpenedDisk → view.OpenedDisk
+opened_of disk = record { faults = disk.faults; calls = disk.calls.items }
+
 -- What contracts see of the code's `Ask`, with the views of its request or its claim.
 -- Shown by: session_tests tests.rt: an_event_has_the_reading_of_its_own_request.
 abbrev pub ask_of : Ask → view.Ask
-ask_of (Opens found disk) = view.opens first_tables (batches_in (flat_map (λ pair. pair.0) found.items)) disk
+ask_of (Opens found disk) = view.opens first_tables (batches_in (flat_map (λ pair. pair.0) found.items)) (option_map opened_of disk)
 ask_of (Asked request) = view.asked (request_of request.value)
 ask_of (Claims held) = view.claims (held_claim held.value)
 ask_of (Records held outcome fate) = view.records (record { claim = held_claim held.value; outcome = outcome; fate = fate })
@@ -64,9 +77,9 @@ turns_in history = map turn_of (recorded_in history)
 abbrev pub turns_of : Machine → List view.Turn
 turns_of m = turns_in m.history
 
--- The turn that opens a book with the first tables, on which these batches were found, and with a disk that had counted this number of faults.
+-- The turn that opens a book with the first tables, on which these batches were found, and with this disk, if there is a journal.
 -- Shown by: first-run.
-abbrev pub opening_on : List Batch → Option ℕ → view.Turn
+abbrev pub opening_on : List Batch → Option view.OpenedDisk → view.Turn
 opening_on found disk = record { pass = None; connection = None; ask = view.opens first_tables found disk; k = 0; batch = None }
 
 -- The same without a journal.
@@ -78,7 +91,7 @@ opening = opening_on [] None
 -- Shown by: the_batch_is_not_entered.edit.
 pub record IsBook (turns : List view.Turn) : Type 0 where
   pub found : List Batch
-  pub disk : Option ℕ
+  pub disk : Option view.OpenedDisk
   pub later : List view.Turn
   pub opened : turns ≡ opening_on found disk ∷ later
   pub legal : IsLegal turns

@@ -2,6 +2,7 @@
 use Rattle.std.specs.Prelude.{◌≡◌, ◌⊎◌, ℕ, ◌+◌, ◌-◌, ◌≤◌, false, true, ◌==◌, not, List, [], ◌∷◌, ◌++◌, length, take, Bool, Option, Some, None, IsSome, filter, flat_map}
 use Rattle.event_shape.specs.Names.{IsQueueArn}
 use Rattle.json_text.specs.Moment.{IsMoment}
+use Rattle.router_disk.specs.declared.disk_call.DiskCall.{DiskCall}
 use Rattle.turn_book.specs.Rule.{is_number}
 use Rattle.rule_table.specs.Control.{Control}
 use Rattle.rule_table.specs.RuleSet.{RuleSet, applied_all}
@@ -21,12 +22,17 @@ use Rattle.router_calls.specs.Answer.{IsAnswer}
 use Rattle.courier_run.specs.Claim.{Claim, IsTooOld, NeedsSend, IsSuccess}
 use Rattle.courier_run.specs.Steps.{Attempt, Why, unsent, limited, unkept}
 
--- What a turn was made for: to open the book with these tables, on which these batches were found, and with a disk that had counted this number
--- of faults, if there is a journal; a request; a claim of the next due duty; the record of how a claimed duty's attempt ended; a claim that is
+-- The disk of a journal, as it was when the book was opened: the number of faults that it had counted, and its calls.
+-- Shown by: proofs alone.
+pub record OpenedDisk : Type 0 where
+  pub faults : ℕ
+  pub calls : List DiskCall
+
+-- What a turn was made for: to open the book with these tables, on which these batches were found, and with this disk, if there is a journal; a request; a claim of the next due duty; the record of how a claimed duty's attempt ended; a claim that is
 -- put back; to break the book (the mark), since appending these batches failed.
 -- Shown by: a_step_is_recorded_twice.edit.
 pub data Ask : Type 0 where
-  opens : (start : Tables) (found : List Batch) (disk : Option ℕ) → Ask
+  opens : (start : Tables) (found : List Batch) (disk : Option OpenedDisk) → Ask
   asked : Request → Ask
   claims : Claim → Ask
   records : Attempt → Ask
@@ -50,14 +56,14 @@ pub record OpenClaim : Type 0 where
   pub claim : Claim
 
 -- The rule set with which the book was opened, the tables, the changes of the configuration since it was opened, oldest first, the open claims,
--- the number of faults that the journal's disk had counted when the book was opened, if there is a journal, and whether the book is broken.
+-- the journal's disk as it was when the book was opened, if there is a journal, and whether the book is broken.
 -- Shown by: first-run; a_step_is_recorded_twice.edit.
 pub record State : Type 0 where
   pub start : RuleSet
   pub tables : Tables
   pub controls : List Control
   pub open_claims : List OpenClaim
-  pub disk : Option ℕ
+  pub disk : Option OpenedDisk
   pub broken : Bool
 
 -- The number of the latest configuration version: all changes that ever were, those before the start too.
@@ -98,7 +104,7 @@ after_change (Some b) s = after_written b s
 
 -- The state of a start, with this journal's disk, before any batch.
 -- Shown by: first-run.
-abbrev pub begun_with : Option ℕ → Tables → State
+abbrev pub begun_with : Option OpenedDisk → Tables → State
 begun_with disk start = record { start = start.set; tables = start; controls = []; open_claims = []; disk = disk; broken = false }
 
 -- The same without a journal.
@@ -292,7 +298,7 @@ IsTurnOf s turn = IsTurnFor s turn turn.ask
 pub record IsOpening (turn : Turn) : Type 0 where
   pub start : Tables
   pub found : List Batch
-  pub disk : Option ℕ
+  pub disk : Option OpenedDisk
   pub ask : turn.ask ≡ opens start found disk
   pub lawful : AreLawful start found
   pub none_found : disk ≡ None → found ≡ []

@@ -1,5 +1,5 @@
 -- Where the batches of a history are appended.
-use Rattle.std.specs.Prelude.{◌≡◌, ℕ, ◌+◌, ◌*◌, ◌≤◌, true, false, List, [], ◌∷◌, ◌++◌, length, Option, Some, None}
+use Rattle.std.specs.Prelude.{◌≡◌, ℕ, ◌+◌, ◌*◌, ◌≤◌, true, false, List, [], ◌∷◌, ◌++◌, length, Some, None}
 use Rattle.router_disk.specs.declared.disk_call.DiskCall.{DiskCall}
 use Rattle.router_disk.specs.Disk.{AreAnswers}
 use Rattle.router_disk.specs.Faults.{Rose}
@@ -11,7 +11,7 @@ use Rattle.duty_journal.specs.declared.home.Home.TheVariants.{Nowhere, Journal}
 use Rattle.duty_journal.specs.Journal as journal
 use Rattle.duty_journal.specs.Journal.{AreKept, AreRecordable, IsSoundJournal}
 use Rattle.router_history.specs.declared.book.Book.{Book}
-use Rattle.router_history.specs.History.{Turn, state_of, found_by, batches_of, unacknowledged_of}
+use Rattle.router_history.specs.History.{OpenedDisk, Turn, state_of, found_by, batches_of, unacknowledged_of}
 use Rattle.router_history.specs.Book.{turns_of, IsSoundMachine}
 
 -- The batches that the first turn of a history found.
@@ -27,10 +27,10 @@ appended_of [] = []
 appended_of (turn ∷ turns) = batches_of turns
 
 -- Each batch that was appended has a call of the disk from which on every image has it and all before it: each image since then is a journal of at
--- least these batches. If the book is not broken, the last call is that of the last batch, and four calls are between two batches.
+-- least these batches. `was` is the number of calls when the book was opened: from four calls later on the first batch is in every image, and each
+-- other one from four calls after the batch before it. If the book is not broken, the last call is that of the last batch.
 -- Shown by: proofs alone.
-pub record KeepsEach (calls : List DiskCall) (turns : List Turn) : Type 0 where
-  pub was : ℕ
+pub record KeepsEach (was : ℕ) (calls : List DiskCall) (turns : List Turn) : Type 0 where
   pub past : was + 4 * length (appended_of turns) ≤ length calls
   pub made : (state_of turns).broken ≡ false → length calls ≡ was + 4 * length (appended_of turns)
   pub each : (first : List ℕ) → AreAnswers first calls → (before after : List Batch) → appended_of turns ≡ before ++ after
@@ -38,21 +38,22 @@ pub record KeepsEach (calls : List DiskCall) (turns : List Turn) : Type 0 where
 
 -- A journal has the batches of a history, and no others. It can be opened again, whatever it has of the batches whose append failed. It is broken
 -- if the history has the mark. Its disk counted a fault since the opening exactly then. Each image since the first sync of the opening is a
--- journal of the batches that were found, and of later ones in order; each that a crash now may leave has all batches of the history. Each batch has
--- a call of the disk from which on it is in every image (`KeepsEach`).
+-- journal of the batches that were found, and of later ones in order; each that a crash now may leave has all batches of the history. The disk's calls
+-- begin with those that it had made when the book was opened, and each batch has a call from which on it is in every image (`KeepsEach`).
 -- Shown by: the_journal_has_another_outcome.edit.
 pub record IsHeld {D : Type 0} (calls : D → List DiskCall) (faults : D → ℕ) (turns : List Turn) (j : journals.Journal D) : Type 0 where
   pub sound : IsSoundJournal calls j
   pub batches : journal.batches_of j ≡ batches_of turns
   pub recordable : AreRecordable first_tables (batches_of turns ++ unacknowledged_of turns)
   pub broken : j.file.broken ≡ (state_of turns).broken
-  pub opened : ℕ
+  pub opened : OpenedDisk
   pub disk : (state_of turns).disk ≡ Some opened
-  pub rose : (state_of turns).broken ≡ true → Rose opened (faults j.file.disk)
-  pub same : (state_of turns).broken ≡ false → faults j.file.disk ≡ opened
+  pub began : (later : List DiskCall) × (calls j.file.disk ≡ opened.calls ++ later)
+  pub rose : (state_of turns).broken ≡ true → Rose opened.faults (faults j.file.disk)
+  pub same : (state_of turns).broken ≡ false → faults j.file.disk ≡ opened.faults
   pub kept : (first : List ℕ) → AreAnswers first (calls j.file.disk)
       → AreKept first (calls j.file.disk) first_tables (found_of turns) 1 (batches_of turns) (batches_of turns ++ unacknowledged_of turns)
-  pub each : KeepsEach (calls j.file.disk) turns
+  pub each : KeepsEach (length opened.calls) (calls j.file.disk) turns
 
 -- The batches of a history are appended here, if there is a journal. Without one the history was opened without one.
 -- Shown by: proofs alone.

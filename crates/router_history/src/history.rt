@@ -3,6 +3,7 @@ ghost use Rattle.std.specs.Prelude.{◌≡◌, ◌++◌, ◌∷◌, []};
 ghost use Rattle.router_history.specs.Book.{turn_of, turns_in, recorded_in};
 
 use crate::held::Held;
+use crate::opened_disk::OpenedDisk;
 use delivery_duties::{Fate, Outcome};
 use http_server::Log;
 use router_core::{Batch, Request};
@@ -12,11 +13,10 @@ use std::snapshot::Snapshot;
 /// What a turn was made for.
 #[derive(Drop)]
 pub enum Ask {
-    /// To open a book with the first tables, on which the batches with these payloads were found, and with a disk that had counted this number
-    /// of faults.
+    /// To open a book with the first tables, on which the batches with these payloads were found, and with this disk, if there is a journal.
     Opens {
         found: Log<Pieces, ()>,
-        disk: Option<u64>,
+        disk: Option<OpenedDisk>,
     },
     Asked(Snapshot<Request>),
     Claims(Snapshot<Held>),

@@ -7,6 +7,7 @@ mod fault;
 mod held;
 mod history;
 mod machine;
+mod opened_disk;
 mod turns;
 mod visit;
 

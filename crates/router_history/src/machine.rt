@@ -1,5 +1,6 @@
 //! The steps of a machine: what a turn does to tables, board and history.
 ghost use Rattle.std.specs.Prelude.{◌≡◌, ◌∷◌, [], ℕ, Bool, Some, None, false, IsSome, IfOk, IfSome, IfNone, IfErr, MatchOption};
+ghost use Rattle.std.specs.Option.{option_map};
 ghost use Rattle.json_text.specs.Moment.{IsMoment};
 ghost use Rattle.turn_book.specs.Rule.{turns_by};
 ghost use Rattle.api_replies.specs.View.{reply_of};
@@ -15,13 +16,14 @@ ghost use Rattle.courier_run.specs.Claim.{FitsClaim};
 ghost use Rattle.courier_run.specs.Book.{HasCause};
 ghost use Rattle.router_history.specs.History.{asked, breaks, claims, records, puts_back, state_of, IsAskable, IsReason};
 ghost use Rattle.router_history.specs.Held.{held_claim};
-ghost use Rattle.router_history.specs.Book.{why_of, recorded_in, turns_of, opening, opening_on, Holds, Rests, IsSoundMachine, HasGrown};
+ghost use Rattle.router_history.specs.Book.{why_of, recorded_in, turns_of, opened_of, opening, opening_on, Holds, Rests, IsSoundMachine, HasGrown};
 ghost use Rattle.router_history.specs.Acts.{IsIdle, IsFullAt, IsBrokenAt};
 ghost use Rattle.router_history.specs.Answered.{IsAdded, IsBroken, IsDecided, IsAnswered, IsRenderable, IsClaimed, IsRecorded, IsPutBack};
 
 use crate::book::{Machine, MadeTurn, Seat, TurnReply};
 use crate::held::Held;
 use crate::history::{Ask, History, Turn, Why, Written};
+use crate::opened_disk::OpenedDisk;
 use board_publish::Board;
 use courier_run::BookFault;
 use delivery_duties::{Fate, Outcome};
@@ -49,15 +51,15 @@ impl Machine {
         Machine::opened(alloc, none, None)
     }
 
-    /// The machine that was just opened with what was found, on a disk that had counted `disk` faults: one turn, which no pass made.
+    /// The machine that was just opened with what was found, on this disk, if there is a journal: one turn, which no pass made.
     pub(crate) fn opened(
         alloc: Global,
         found: Found,
-        disk: Option<u64>,
+        disk: Option<OpenedDisk>,
     ) -> Result<Machine, NoMemory>
         requires found { IsFound first_tables found }
         requires none_found { disk ≡ None → batches_found found ≡ [] }
-        ensures opened { IfOk result (λ m. turns_of m ≡ opening_on (batches_found found) disk ∷ []) }
+        ensures opened { IfOk result (λ m. turns_of m ≡ opening_on (batches_found found) (option_map opened_of disk) ∷ []) }
         ensures unmade { IfOk result (λ m. (n : ℕ) → turns_by (λ t. t.pass) n (recorded_in m.history) ≡ []) }
         ensures kept { IfOk result (λ m. IsSoundMachine m) }
     {

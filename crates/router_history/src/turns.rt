@@ -10,7 +10,7 @@ ghost use Rattle.courier_run.specs.Claim.{FitsClaim};
 ghost use Rattle.courier_run.specs.Book.{HasCause};
 ghost use Rattle.router_history.specs.History.{state_of, IsAskable, IsReason};
 ghost use Rattle.router_history.specs.Held.{held_claim};
-ghost use Rattle.router_history.specs.Book.{why_of, recorded_in, turns_of, opening, opening_on, Holds, Rests, HasGrown};
+ghost use Rattle.router_history.specs.Book.{why_of, recorded_in, turns_of, as_opened, opening, opening_on, Holds, Rests, HasGrown};
 ghost use Rattle.router_history.specs.Acts.{IsIdle, IsFullAt, IsBrokenAt};
 ghost use Rattle.router_history.specs.Answered.{IsDecided, IsAnswered, IsUnanswered, IsRenderable, IsClaimed, IsRecorded, IsUnrecordedBy, IsPutBack};
 
@@ -19,6 +19,7 @@ use crate::fault::RequestFault;
 use crate::held::Held;
 use crate::history::Why;
 use crate::machine::turn_moment;
+use crate::opened_disk::OpenedDisk;
 use courier_run::BookFault;
 use delivery_duties::{Fate, Outcome};
 use duty_journal::{DiskFault, Found, Home, Journal};
@@ -57,14 +58,14 @@ impl<D: Disk> Book<D> {
     ) -> Result<Book<D>, (NoMemory, Journal<D>)>
         requires found { IsFound first_tables found × (batches_of journal ≡ batches_found found) × (journal.file.broken ≡ false) × IsSoundJournal D.calls journal }
         requires opened { (first : List ℕ) → AreAnswers first (D.calls journal.file.disk) → HasOpened first (D.calls journal.file.disk) (batches_found found) }
-        ensures opened { IfOk result (λ b. turns_of b.machine ≡ opening_on (batches_found found) (Some (D.faults journal.file.disk)) ∷ []) }
+        ensures opened { IfOk result (λ b. turns_of b.machine ≡ opening_on (batches_found found) (Some (as_opened D.calls D.faults journal.file.disk)) ∷ []) }
         ensures unmade { IfOk result (λ b. (n : ℕ) → turns_by (λ t. t.pass) n (recorded_in b.machine.history) ≡ []) }
         ensures home { IfOk result (λ b. b.home ≡ homes.Journal journal) }
         ensures book { IfOk result (λ b. IsSoundBook D.calls D.faults b) }
         ensures err { IfErr result (λ e. e.1 ≡ journal) }
     {
-        let faults = journal.faults();
-        match Machine::opened(alloc, found, Some(faults)) {
+        let disk = OpenedDisk::of(&journal);
+        match Machine::opened(alloc, found, Some(disk)) {
             Ok(machine) => Ok(Book {
                 machine,
                 home: Home::Journal(journal),

@@ -1,7 +1,8 @@
 -- From the hall's clauses to what a pass knows of the history. Other files cite `seen_of`, `learned`, `IsTaken`, `taken`, `answered_later`, `claimed_later`, `recorded_later`, `unrecorded_later`, `unanswered_later`,
--- `back_later`, `rests_there`, `holds_there`, `rests_more`, `looked`, `extends`, `sees_more`, `sees_same`, `same_again`, `same_seat`, `sees_again`, `sees_none`, `pass_of`.
-use Rattle.std.proofs.Common.{◌≡◌, inl, inr, ℕ, true, false, cond, List, [], ◌∷◌, ◌++◌, map, Option, Some, refl, sym, ap, ◌∙◌, subst, append-nil, append_assoc}
-use Rattle.std.specs.Prelude.{Bool}
+-- `back_later`, `rests_there`, `holds_there`, `rests_more`, `looked`, `extends`, `sees_more`, `sees_same`, `same_again`, `same_seat`, `sees_again`, `sees_none`, `pass_of`,
+-- `reply_ok`, `reply_err`.
+use Rattle.std.proofs.Common.{◌≡◌, inl, inr, ℕ, true, false, cond, List, [], ◌∷◌, ◌++◌, map, Option, Some, Result, Ok, Err, refl, sym, ap, ◌∙◌, subst, append-nil, append_assoc}
+use Rattle.std.specs.Prelude.{Bool, IfOk, MatchResult}
 use Rattle.std.proofs.lemmas.Bool.{eq-eqb}
 use Rattle.std.proofs.lemmas.List.{map-append, append_cancel_left}
 use Rattle.std.proofs.lemmas.List.Elements.{filter-append, All-weaker, All-nil}
@@ -209,3 +210,14 @@ own_number connection old seat is = ap (λ (s : Seat). s.pass) is
 
 pub pass_of : {V : Type 0} (connection : Option ℕ) (old mid : Known V) (seat : Seat) → seat ≡ seat_of connection old → IsSamePass old mid → seat.pass ≡ number_of mid
 pass_of connection old mid seat is (t, n, p, m) = ap (λ (s : Seat). s.pass) is ∙ sym n
+
+-- a reply that was made is that of the turn
+pub reply_ok : {A B E : Type 0} (f : A → B) (made : Result A E) (result : Result B E) (P : B → Type 0)
+    → MatchResult made (λ m. result ≡ Ok (f m)) (λ e. result ≡ Err e) → IfOk made (λ m. P (f m)) → IfOk result P
+reply_ok f (Ok m) result P is p = subst (λ r. IfOk r P) (sym is) p
+reply_ok f (Err e) result P is p = subst (λ r. IfOk r P) (sym is) tt
+
+pub reply_err : {A B E : Type 0} (f : A → B) (made : Result A E) (result : Result B E) (e : E)
+    → MatchResult made (λ m. result ≡ Ok (f m)) (λ d. result ≡ Err d) → result ≡ Err e → made ≡ Err e
+reply_err f (Ok m) result e is failed = absurd (cc (is, failed))
+reply_err f (Err d) result e is failed = ap Err (cc (is, failed))

@@ -1,5 +1,5 @@
 //! Turns of a pass: each takes the book from the hall, makes at most one turn, and gives the book back.
-ghost use Rattle.std.specs.Prelude.{◌≡◌, ◌∷◌, [], IsSome, IfOk, IfErr, IfSome, IfNone, Err};
+ghost use Rattle.std.specs.Prelude.{◌≡◌, ◌∷◌, [], IsSome, IfOk, IfErr, IfSome, IfNone, Ok, Err, MatchResult};
 ghost use Rattle.json_text.specs.Moment.{IsMoment};
 ghost use Rattle.turn_book.specs.Passes.{IsFree, IsSamePass};
 ghost use Rattle.router_core.specs.View.{request_of};
@@ -91,10 +91,8 @@ impl<Rt: Wait, D: Disk> Desk<'_, Rt, D> {
         ensures broken { result ≡ Err RequestFault.Broken → IsUnanswered (seat_of self.entry.connection pass.old.seat)
             (turns_seen pass.old.seat) (turns_seen pass.new.seat) (request_of request) }
     {
-        match self.make_turn(pass, &request, close) {
-            Ok(made) => Ok(made.into_reply()),
-            Err(fault) => Err(fault),
-        }
+        let made = self.make_turn(pass, &request, close);
+        made_reply(made)
     }
 
     /// The same; what the turn released is not freed yet.
@@ -207,6 +205,16 @@ impl<Rt: Wait, D: Disk> Desk<'_, Rt, D> {
         let mut book = self.hall.take(self.rt, pass);
         book.put_back(seat, held, Why::Unsent);
         self.hall.give(pass, book);
+    }
+}
+
+/// The reply of a turn that was made. What the turn released is freed.
+fn made_reply(made: Result<MadeTurn, RequestFault>) -> Result<TurnReply, RequestFault>
+    ensures { MatchResult made (λ turn. result ≡ Ok turn.reply) (λ fault. result ≡ Err fault) }
+{
+    match made {
+        Ok(made) => Ok(made.into_reply()),
+        Err(fault) => Err(fault),
     }
 }
 

@@ -1,4 +1,4 @@
--- What it says that a change is allowed: `bus_new`, `bus_free`, `rule_room`, `rule_free`, `targets_fine`, `removal_fine`, `queue_new`,
+-- What it says that a change is allowed: `bus_new`, `bus_free`, `archive_new`, `rule_room`, `rule_free`, `targets_fine`, `removal_fine`, `queue_new`,
 -- `queue_free`. Of targets that are put one by one: `no_member_fault`, `one_input`, `own_member`, `own_inputs`, `own_queues`, `fault_found`, `room_decides`,
 -- `put_formed`, `good_few`, `good_there`. Of the queues of a target after a change: `target_still`. Of truth values and optional values:
 -- `not_true`, `not_false`, `both_true`, `either_false`, `some_items`, `no_items`, `none_of`, `by_option`.
@@ -26,8 +26,9 @@ use Rattle.rule_targets.proofs.TargetLemmas.{put_asked}
 use Rattle.rule_table.specs.declared.control.TargetFault.{TargetFault}
 use Rattle.rule_table.specs.declared.control.TargetFault.TheVariants as fault
 use Rattle.rule_table.specs.Control.{bus_created, bus_deleted, rule_put, rule_deleted, targets_put, targets_removed, queue_created, queue_deleted}
-use Rattle.rule_table.specs.RuleSet.{RuleSet, put_target, put_targets, has_bus, has_rule, has_queue, is_queue_used, rules_of, targets_of}
-use Rattle.rule_table.specs.Refusal.{missing_in, own_checks, target_fault, are_put, are_some_put, are_some_removable, rule_checks, IsAllowed}
+use Rattle.rule_table.specs.Control.{archive_created}
+use Rattle.rule_table.specs.RuleSet.{RuleSet, put_target, put_targets, has_bus, has_rule, has_queue, has_archive, is_queue_used, rules_of, targets_of, archives_of}
+use Rattle.rule_table.specs.Refusal.{missing_in, own_checks, is_bus_unused, target_fault, are_put, are_some_put, are_some_removable, rule_checks, IsAllowed}
 use Rattle.rule_table.specs.WellFormed.{HasValidInput}
 use Rattle.rule_table.specs.Sound.{IsSoundTarget}
 
@@ -88,12 +89,22 @@ bus_new name set a =
     let second = kept (nat_lt (length set.buses) 100) _ _ first.1 in
     (not_true (has_bus name set) first.0, ltb-true (length set.buses) 100 second.0)
 
-pub bus_free : (name : List ℕ) (set : RuleSet) → IsAllowed (bus_deleted name) set → (bytes_eq name default_bus ≡ false) × (rules_of name set ≡ [])
+pub bus_free : (name : List ℕ) (set : RuleSet) → IsAllowed (bus_deleted name) set
+    → (bytes_eq name default_bus ≡ false) × (rules_of name set ≡ []) × (archives_of name set ≡ [])
 bus_free name set a =
     let first = kept (not (bytes_eq name default_bus)) _ _ a in
     let second = kept (has_bus name set) _ _ first.1 in
-    let third = kept (nat_le (length (rules_of name set)) 0) _ _ second.1 in
-    (not_true (bytes_eq name default_bus) first.0, no_items (rules_of name set) third.0)
+    let third = kept (is_bus_unused name set) _ _ second.1 in
+    let both = both_true (nat_le (length (rules_of name set)) 0) (nat_le (length (archives_of name set)) 0) third.0 in
+    (not_true (bytes_eq name default_bus) first.0, no_items (rules_of name set) both.0, no_items (archives_of name set) both.1)
+
+pub archive_new : (name bus : List ℕ) (pattern : Option (List ℕ)) (days : ℕ) (set : RuleSet) → IsAllowed (archive_created name bus pattern days) set
+    → (has_bus bus set ≡ true) × (length set.archives < 100)
+archive_new name bus pattern days set a =
+    let first = kept (has_bus bus set) _ _ a in
+    let second = kept (not (has_archive name set)) _ _ first.1 in
+    let third = kept (nat_lt (length set.archives) 100) _ _ second.1 in
+    (first.0, ltb-true (length set.archives) 100 third.0)
 
 pub rule_room : (bus name pattern : List ℕ) (enabled : Bool) (set : RuleSet) → IsAllowed (rule_put bus name pattern enabled) set
     → (has_rule bus name set ≡ true) ⊎ (length (rules_of bus set) < 300)

@@ -4,7 +4,7 @@ use Rattle.std.specs.Str.{bytes_eq}
 use Rattle.name_rows.specs.Rows.{named, replacing}
 use Rattle.name_rows.proofs.RowLemmas.{by_test}
 use Rattle.rule_table.specs.Control.{Control, bus_created, bus_deleted, rule_put, rule_deleted, state_put, targets_put, targets_removed, policy_put}
-use Rattle.rule_table.specs.Control.{queue_created, queue_deleted}
+use Rattle.rule_table.specs.Control.{queue_created, queue_deleted, archive_created, archive_updated, archive_deleted}
 use Rattle.rule_table.specs.Altered.{changed_bus, matching_of, matching_of_rule}
 use Rattle.rule_table.specs.RuleSet.{Rule, Bus, RuleSet, changed, with_rule_changed, applied, new_rule, put_rule, without_rule, put_targets, without_targets}
 use Rattle.rule_targets.specs.declared.target.Target.{Target}
@@ -42,6 +42,9 @@ other_stays (targets_removed name rule ids) set bus apart =
 other_stays (policy_put name policy) set bus apart = bus_stays name bus (λ b. record b { policy = policy }) set (λ b. refl) apart
 other_stays (queue_created name) set bus apart = refl
 other_stays (queue_deleted name) set bus apart = refl
+other_stays (archive_created name on pattern days) set bus apart = refl
+other_stays (archive_updated name pattern days) set bus apart = refl
+other_stays (archive_deleted name) set bus apart = refl
 
 -- ---- what matching reads
 
@@ -49,8 +52,8 @@ other_stays (queue_deleted name) set bus apart = refl
 same_matching : (bus rule : List ℕ) (change : Rule → Rule) (set : RuleSet) → ((r : Rule) → matching_of_rule (change r) ≡ matching_of_rule r)
     → matching_of (record set { buses = changed (λ b. b.name) bus (with_rule_changed rule change) set.buses; count = set.count + 1 }) ≡ matching_of set
 same_matching bus rule change set same =
-    map_changed (λ (b : Bus). (b.name, map matching_of_rule b.rules)) (λ b. b.name) bus (with_rule_changed rule change) set.buses
-    (λ b. ap (λ rs. (b.name, rs)) (map_changed matching_of_rule (λ r. r.name) rule change b.rules same))
+    ap (λ buses. (buses, set.archives)) (map_changed (λ (b : Bus). (b.name, map matching_of_rule b.rules)) (λ b. b.name) bus (with_rule_changed rule change) set.buses
+    (λ b. ap (λ rs. (b.name, rs)) (map_changed matching_of_rule (λ r. r.name) rule change b.rules same)))
 
 pub put_matching : (bus rule : List ℕ) (targets : List Target) (set : RuleSet) → matching_of (applied (targets_put bus rule targets) set) ≡ matching_of set
 put_matching bus rule targets set = same_matching bus rule (λ r. record r { targets = put_targets targets r.targets }) set (λ r. refl)
@@ -61,4 +64,5 @@ removed_matching bus rule ids set = same_matching bus rule (λ r. record r { tar
 
 pub policy_matching : (bus : List ℕ) (policy : Option (List ℕ)) (set : RuleSet) → matching_of (applied (policy_put bus policy) set) ≡ matching_of set
 policy_matching bus policy set =
-    map_changed (λ (b : Bus). (b.name, map matching_of_rule b.rules)) (λ b. b.name) bus (λ b. record b { policy = policy }) set.buses (λ b. refl)
+    ap (λ buses. (buses, set.archives))
+    (map_changed (λ (b : Bus). (b.name, map matching_of_rule b.rules)) (λ b. b.name) bus (λ b. record b { policy = policy }) set.buses (λ b. refl))

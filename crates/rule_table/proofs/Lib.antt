@@ -13,3 +13,4 @@ pub mod ChangeLemmas
 pub mod TargetLemmas
 pub mod LawLemmas
 pub mod LossLemmas
+pub mod ArchiveLemmas

@@ -1,5 +1,5 @@
--- What an allowed change takes away: `bus_kept`, `rule_kept`, `target_kept` and `queue_kept`.
-use Rattle.std.proofs.Common.{◌≡◌, ◌⊎◌, ℕ, true, false, List, [], ◌∷◌, Option, Some, None, inl, inr, is_some, refl, sym, ap, ◌∙◌, subst, arith}
+-- What an allowed change takes away: `bus_kept`, `rule_kept`, `target_kept`, `queue_kept` and `archive_kept`.
+use Rattle.std.proofs.Common.{◌+◌, ◌≡◌, ◌⊎◌, ℕ, true, false, List, [], ◌∷◌, Option, Some, None, inl, inr, is_some, refl, sym, ap, ◌∙◌, subst, arith}
 use Rattle.std.specs.List.{Contains}
 use Rattle.std.specs.Str.{bytes_eq}
 use Rattle.std.proofs.lemmas.Bool.{false≢true}
@@ -8,10 +8,10 @@ use Rattle.name_rows.specs.Rows.{AreSorted, named, replacing, without}
 use Rattle.name_rows.proofs.RowLemmas.{by_test}
 use Rattle.rule_targets.specs.declared.target.Target.{Target}
 use Rattle.rule_table.specs.Control.{Control, bus_created, bus_deleted, rule_put, rule_deleted, state_put, targets_put, targets_removed, policy_put}
-use Rattle.rule_table.specs.Control.{queue_created, queue_deleted}
-use Rattle.rule_table.specs.RuleSet.{Rule, Bus, RuleSet, changed, with_rule_changed, applied, new_rule, keeping_targets, put_bus, without_bus, put_rule, without_rule}
+use Rattle.rule_table.specs.Control.{queue_created, queue_deleted, archive_created, archive_updated, archive_deleted}
+use Rattle.rule_table.specs.RuleSet.{Archive, Rule, Bus, RuleSet, changed, with_rule_changed, applied, new_rule, keeping_targets, put_bus, without_bus, put_rule, without_rule}
 use Rattle.rule_table.specs.RuleSet.{put_target, put_targets, without_targets, rules_in, rules_of, targets_in}
-use Rattle.rule_table.specs.RuleSet.{has_bus, has_rule, has_queue, is_queue_used, targets_of}
+use Rattle.rule_table.specs.RuleSet.{has_bus, has_rule, has_queue, has_archive, archives_of, is_queue_used, targets_of}
 use Rattle.rule_table.specs.Refusal.{IsAllowed}
 use Rattle.rule_table.specs.Sound.{IsSound}
 use Rattle.rule_table.specs.Altered.{has_target_of_rule}
@@ -47,12 +47,12 @@ bus_stays_there : (name bus : List ℕ) (change : Bus → Bus) (set : RuleSet) �
 bus_stays_there name bus change set c there = IsIn-changed bus_name name bus change set.buses c there
 
 pub bus_kept : (control : Control) (set : RuleSet) (bus : List ℕ) → IsAllowed control set → has_bus bus set ≡ true
-    → (has_bus bus (applied control set) ≡ true) ⊎ ((control ≡ bus_deleted bus) × (rules_of bus set ≡ []))
+    → (has_bus bus (applied control set) ≡ true) ⊎ ((control ≡ bus_deleted bus) × (rules_of bus set ≡ []) × (archives_of bus set ≡ []))
 bus_kept (bus_created name) set bus a there =
     inl (named_placed bus_name replacing (record { name = name; policy = None; rules = [] }) bus set.buses (λ old. refl) there)
 bus_kept (bus_deleted name) set bus a there =
     by_names name bus
-    (λ same. inr (ap bus_deleted same, subst (λ n. rules_of n set ≡ []) same (bus_free name set a).1))
+    (λ same. inr (ap bus_deleted same, subst (λ n. rules_of n set ≡ []) same (bus_free name set a).1, subst (λ n. archives_of n set ≡ []) same (bus_free name set a).2))
     (λ apart. inl (ap is_some (named_without bus_name name bus set.buses apart) ∙ there))
 bus_kept (rule_put name rule pattern enabled) set bus a there =
     let new : Rule = new_rule name rule pattern enabled in
@@ -68,6 +68,9 @@ bus_kept (targets_removed name rule ids) set bus a there =
 bus_kept (policy_put name policy) set bus a there = inl (bus_stays_there name bus (λ b. record b { policy = policy }) set (λ b. refl) there)
 bus_kept (queue_created name) set bus a there = inl there
 bus_kept (queue_deleted name) set bus a there = inl there
+bus_kept (archive_created archive on pattern days) set bus a there = inl there
+bus_kept (archive_updated archive pattern days) set bus a there = inl there
+bus_kept (archive_deleted archive) set bus a there = inl there
 
 -- ---- facts of the rules of a bus
 
@@ -133,6 +136,9 @@ rule_kept (policy_put on policy) set bus name a there =
     (λ b same is. subst (λ o. IsIn rule_name name (rules_in o)) is there))
 rule_kept (queue_created queue) set bus name a there = inl there
 rule_kept (queue_deleted queue) set bus name a there = inl there
+rule_kept (archive_created archive on pattern days) set bus name a there = inl there
+rule_kept (archive_updated archive pattern days) set bus name a there = inl there
+rule_kept (archive_deleted archive) set bus name a there = inl there
 
 -- ---- targets
 
@@ -227,6 +233,9 @@ target_kept (policy_put on policy) set bus rule id a k there =
     (λ b same is. subst (λ o. HasIt rule id (rules_in o)) is there))
 target_kept (queue_created queue) set bus rule id a k there = inl there
 target_kept (queue_deleted queue) set bus rule id a k there = inl there
+target_kept (archive_created archive on pattern days) set bus rule id a k there = inl there
+target_kept (archive_updated archive pattern days) set bus rule id a k there = inl there
+target_kept (archive_deleted archive) set bus rule id a k there = inl there
 
 -- ---- queues
 
@@ -248,3 +257,33 @@ queue_kept (queue_deleted name) set queue a there =
     by_names name queue
     (λ same. inr (ap queue_deleted same, subst (λ n. is_queue_used n set ≡ false) same (queue_free name set a)))
     (λ apart. inl (ap is_some (named_without itself name queue set.queues apart) ∙ there))
+queue_kept (archive_created archive on pattern days) set queue a there = inl there
+queue_kept (archive_updated archive pattern days) set queue a there = inl there
+queue_kept (archive_deleted archive) set queue a there = inl there
+
+-- ---- archives
+
+abbrev archive_name : Archive → List ℕ
+archive_name archive = archive.name
+
+pub archive_kept : (control : Control) (set : RuleSet) (archive : List ℕ) → IsAllowed control set → has_archive archive set ≡ true
+    → (has_archive archive (applied control set) ≡ true) ⊎ (control ≡ archive_deleted archive)
+archive_kept (bus_created name) set archive a there = inl there
+archive_kept (bus_deleted name) set archive a there = inl there
+archive_kept (rule_put bus name pattern enabled) set archive a there = inl there
+archive_kept (rule_deleted bus name) set archive a there = inl there
+archive_kept (state_put bus name enabled) set archive a there = inl there
+archive_kept (targets_put bus rule targets) set archive a there = inl there
+archive_kept (targets_removed bus rule ids) set archive a there = inl there
+archive_kept (policy_put bus policy) set archive a there = inl there
+archive_kept (queue_created name) set archive a there = inl there
+archive_kept (queue_deleted name) set archive a there = inl there
+archive_kept (archive_created name bus pattern days) set archive a there =
+    let new : Archive = record { name = name; bus = bus; pattern = pattern; made = set.count + 1 } in
+    inl (named_placed archive_name replacing new archive set.archives (λ old. refl) there)
+archive_kept (archive_updated name pattern days) set archive a there =
+    inl (IsIn-changed archive_name name archive (λ row. record row { pattern = pattern }) set.archives (λ row. refl) there)
+archive_kept (archive_deleted name) set archive a there =
+    by_names name archive
+    (λ same. inr (ap archive_deleted same))
+    (λ apart. inl (ap is_some (named_without archive_name name archive set.archives apart) ∙ there))

@@ -1,7 +1,7 @@
 -- An allowed change, whose policy is as it is stored and whose inputs are valid, leads from a sound rule set to a sound one: `sound_applied`.
-use Rattle.std.proofs.Common.{◌≡◌, ℕ, ◌+◌, ◌<◌, ◌≤◌, ◌⊎◌, true, false, Bool, List, [], ◌∷◌, length, Option, Some, None, refl, sym, ap, ◌∙◌}
+use Rattle.std.proofs.Common.{◌≡◌, ℕ, ◌+◌, ◌<◌, ◌≤◌, ◌⊎◌, true, false, Bool, cond, List, [], ◌∷◌, length, Option, Some, None, refl, sym, ap, ◌∙◌}
 use Rattle.std.proofs.Common.{subst, arith, inl, inr, is_some, suc}
-use Rattle.std.specs.Prelude.{All, ◌||◌}
+use Rattle.std.specs.Prelude.{All, ◌||◌, filter}
 use Rattle.std.specs.Option.{option_and_then}
 use Rattle.std.specs.List.{list_any}
 use Rattle.std.specs.Cmp.Lexicographic.{slice_cmp}
@@ -16,17 +16,17 @@ use Rattle.event_shape.proofs.NameLemmas.{queue_named}
 use Rattle.name_rows.specs.Rows.{named, placed, replacing, without, AreSorted}
 use Rattle.name_rows.proofs.NameOrder.{Less_from_Greater, same_name, bytes_eq_Less}
 use Rattle.name_rows.proofs.RowLemmas.{by_cmp, by_test, named_none, none_greater, others_after, All_placed, sorted_placed, sorted_without}
-use Rattle.rule_table.specs.RuleSet.{Rule, Bus, RuleSet, changed, new_rule, keeping_targets, put_bus, without_bus, put_rule, without_rule, put_target}
+use Rattle.rule_table.specs.RuleSet.{Archive, Rule, Bus, RuleSet, has_bus, put_archive, without_archive, with_pattern, changed, new_rule, keeping_targets, put_bus, without_bus, put_rule, without_rule, put_target}
 use Rattle.rule_table.specs.RuleSet.{put_targets, without_targets, with_rule_changed, rules_in, rules_of, rule_at, applied}
 use Rattle.rule_table.specs.RuleSet.{is_dead_letter_of, is_used_by_target, is_used_by_rule, is_used_by_bus, targets_in}
 use Rattle.rule_table.specs.Refusal.{are_put, IsAllowed}
 use Rattle.rule_table.specs.WellFormed.{IsNoneOrStored, HasValidInput}
-use Rattle.rule_table.specs.Sound.{IsSoundTarget, HasSoundTargets, HasItsArn, IsSound}
+use Rattle.rule_table.specs.Sound.{IsSoundTarget, HasSoundTargets, HasItsArn, AreArchivesSound, IsSound}
 use Rattle.rule_table.specs.Control.{Control, bus_created, bus_deleted, rule_put, rule_deleted, state_put, targets_put, targets_removed, policy_put}
-use Rattle.rule_table.specs.Control.{queue_created, queue_deleted}
+use Rattle.rule_table.specs.Control.{queue_created, queue_deleted, archive_created, archive_updated, archive_deleted}
 use Rattle.rule_targets.specs.declared.target.Target.{Target}
 use Rattle.rule_table.proofs.RowLemmas.{changed_none, named_same, named_other, named_name, All_named, bytes_same, bytes_differ, named_without, after_changed, All_without, length_without}
-use Rattle.rule_table.proofs.AllowedLemmas.{bus_new, bus_free, rule_room, targets_fine, queue_new, queue_free, good_few, good_there, Stays, target_still}
+use Rattle.rule_table.proofs.AllowedLemmas.{bus_new, bus_free, archive_new, rule_room, targets_fine, queue_new, queue_free, good_few, good_there, Stays, target_still}
 
 changed_same : {A : Type 0} (f : A → List ℕ) (name : List ℕ) (change : A → A) (row : A) (rows : List A) → bytes_eq (f row) name ≡ true
     → changed f name change (row ∷ rows) ≡ change row ∷ changed f name change rows
@@ -166,6 +166,58 @@ targets_still set next buses same all =
     All-weaker (λ b. All (HasSoundTargets set) b.rules) (λ b. All (HasSoundTargets next) b.rules)
     (λ b h. All-weaker (HasSoundTargets set) (HasSoundTargets next) have b.rules h) buses all
 
+-- ---- archives stay sound if no bus of theirs goes
+
+abbrev archive_name : Archive → List ℕ
+archive_name archive = archive.name
+
+abbrev OnBusOf : RuleSet → Archive → Type 0
+OnBusOf set archive = has_bus archive.bus set ≡ true
+
+abbrev MadeBy : ℕ → Archive → Type 0
+MadeBy count archive = (1 ≤ archive.made) × (archive.made ≤ count)
+
+archives_still : (set next : RuleSet) → next.archives ≡ set.archives → set.count ≤ next.count → All (OnBusOf next) set.archives → AreArchivesSound set
+    → AreArchivesSound next
+archives_still set next same later buses k = record {
+  few = subst (λ archives. length archives ≤ 100) (sym same) k.few;
+  order = subst (AreSorted archive_name) (sym same) k.order;
+  buses = subst (All (OnBusOf next)) (sym same) buses;
+  versions = subst (All (MadeBy next.count)) (sym same)
+      (All-weaker (MadeBy set.count) (MadeBy next.count) (λ archive made. (made.0, omega (arith, made.1, later))) set.archives k.versions);
+}
+
+-- the archives of a rule set whose buses all stay
+archives_stay : (set next : RuleSet) → next.archives ≡ set.archives → set.count ≤ next.count
+    → ((bus : List ℕ) → has_bus bus set ≡ true → has_bus bus next ≡ true) → AreArchivesSound set → AreArchivesSound next
+archives_stay set next same later stays k =
+    archives_still set next same later
+    (All-weaker (OnBusOf set) (OnBusOf next) (λ archive there. stays archive.bus there) set.archives k.buses) k
+
+-- a bus is changed, and keeps its name
+archives_beside : (name : List ℕ) (change : Bus → Bus) (set : RuleSet) → ((b : Bus) → (change b).name ≡ b.name) → AreArchivesSound set
+    → AreArchivesSound (record set { buses = changed (λ b. b.name) name change set.buses; count = set.count + 1 })
+archives_beside name change set c k =
+    archives_stay set (record set { buses = changed (λ b. b.name) name change set.buses; count = set.count + 1 }) refl (omega arith)
+    (λ bus there. after_changed (λ (b : Bus). b.name) name bus change set.buses c (λ o. is_some o ≡ true) there (λ row same is. refl)) k
+
+-- a bus without archives goes
+buses_left : (name : List ℕ) (set : RuleSet) (rows : List Archive) → filter (λ archive. bytes_eq archive.bus name) rows ≡ []
+    → All (OnBusOf set) rows → All (λ archive. is_some (named (λ (b : Bus). b.name) archive.bus (without_bus name set.buses)) ≡ true) rows
+buses_left name set [] none all = All-nil (λ archive. is_some (named (λ (b : Bus). b.name) archive.bus (without_bus name set.buses)) ≡ true)
+buses_left name set (archive ∷ rows) none all =
+    let bus_name : Bus → List ℕ = λ b. b.name in
+    let Left : Archive → Type 0 = λ a. is_some (named bus_name a.bus (without_bus name set.buses)) ≡ true in
+    (elim (bytes_eq archive.bus name) as (λ b. bytes_eq archive.bus name ≡ b
+    → cond b (archive ∷ filter (λ a. bytes_eq a.bus name) rows) (filter (λ a. bytes_eq a.bus name) rows) ≡ [] → All Left (archive ∷ rows)) [
+      | true ↦ λ same is. absurd cc
+      | false ↦ λ other is.
+          let apart : ¬ (name ≡ archive.bus) = λ e. bytes_differ archive.bus name other (sym e) in
+          All-cons Left archive rows
+          (ap is_some (named_without bus_name name archive.bus set.buses apart) ∙ All-head (OnBusOf set) archive rows all)
+          (buses_left name set rows is (All-tail (OnBusOf set) archive rows all))
+    ]) refl none
+
 -- ---- each change
 
 sound_rule : (bus name pattern : List ℕ) (enabled : Bool) (set : RuleSet) → IsAllowed (rule_put bus name pattern enabled) set
@@ -203,6 +255,7 @@ sound_rule bus name pattern enabled set a k =
       target_order = All_changed InOrder InOrder bus_name bus change set.buses (λ b h. h)
           (λ b h. All_placed RuleInOrder rule_name keeping_targets new b.rules tt (λ old p. p) h) k.target_order;
       queue_order = k.queue_order;
+      archives = archives_beside bus change set (λ b. refl) k.archives;
     }
 
 -- a rule of a bus is changed, and keeps its name and the order of its targets
@@ -239,6 +292,7 @@ sound_rule_changed bus rule change set named_so arn_so good ordered k =
       target_order = All_changed InOrder InOrder bus_name bus with_rule set.buses (λ b h. h)
           (λ b h. All_changed RuleInOrder RuleInOrder rule_name rule change b.rules (λ r o. o) (λ r o. ordered r o) h) k.target_order;
       queue_order = k.queue_order;
+      archives = archives_beside bus with_rule set (λ b. refl) k.archives;
     }
 
 sound_targets : (bus rule : List ℕ) (targets : List Target) (set : RuleSet) → IsAllowed (targets_put bus rule targets) set → All HasValidInput targets
@@ -287,6 +341,7 @@ sound_deletion bus name set k =
       target_order = All_changed InOrder InOrder bus_name bus change set.buses (λ b h. h)
           (λ b h. All_without RuleInOrder rule_name name b.rules h) k.target_order;
       queue_order = k.queue_order;
+      archives = archives_beside bus change set (λ b. refl) k.archives;
     }
 
 sound_policy : (bus : List ℕ) (policy : Option (List ℕ)) (set : RuleSet) → IsNoneOrStored policy → IsSound set
@@ -311,6 +366,7 @@ sound_policy bus policy set spelled k =
       rule_order = All_changed IsInOrder IsInOrder bus_name bus change set.buses (λ b h. h) (λ b h. h) k.rule_order;
       target_order = All_changed InOrder InOrder bus_name bus change set.buses (λ b h. h) (λ b h. h) k.target_order;
       queue_order = k.queue_order;
+      archives = archives_beside bus change set (λ b. refl) k.archives;
     }
 
 sound_creation : (name : List ℕ) (set : RuleSet) → IsAllowed (bus_created name) set → IsSound set → IsSound (applied (bus_created name) set)
@@ -332,6 +388,8 @@ sound_creation name set a k =
       rule_order = put (λ b. AreSorted (λ rule. rule.name) b.rules) tt k.rule_order;
       target_order = put InOrder (All-nil RuleInOrder) k.target_order;
       queue_order = k.queue_order;
+      archives = archives_stay set (applied (bus_created name) set) refl (omega arith)
+          (λ bus there. named_placed bus_name replacing new bus set.buses (λ old. refl) there) k.archives;
     }
 
 sound_bus_deletion : (name : List ℕ) (set : RuleSet) → IsAllowed (bus_deleted name) set → IsSound set → IsSound (applied (bus_deleted name) set)
@@ -350,6 +408,8 @@ sound_bus_deletion name set a k =
       rule_order = rest (λ b. AreSorted (λ rule. rule.name) b.rules) k.rule_order;
       target_order = rest InOrder k.target_order;
       queue_order = k.queue_order;
+      archives = archives_still set (applied (bus_deleted name) set) refl (omega arith)
+          (buses_left name set set.archives (bus_free name set a).2 k.archives.buses) k.archives;
     }
 
 sound_queue : (name : List ℕ) (set : RuleSet) → IsAllowed (queue_created name) set → IsSound set → IsSound (applied (queue_created name) set)
@@ -374,6 +434,7 @@ sound_queue name set a k =
       rule_order = k.rule_order;
       target_order = k.target_order;
       queue_order = sorted_placed itself replacing name set.queues (λ old. refl) k.queue_order;
+      archives = archives_stay set next refl (omega arith) (λ bus there. there) k.archives;
     }
 
 neither : (a b : Bool) → (a || b) ≡ false → (a ≡ false) × (b ≡ false)
@@ -426,7 +487,62 @@ sound_queue_deletion name set a k =
       rule_order = k.rule_order;
       target_order = k.target_order;
       queue_order = sorted_without itself name set.queues k.queue_order;
+      archives = archives_stay set next refl (omega arith) (λ bus there. there) k.archives;
     }
+
+-- archives change, and nothing else
+sound_archives : (rows : List Archive) (set : RuleSet) → AreArchivesSound (record set { archives = rows; count = set.count + 1 }) → IsSound set
+    → IsSound (record set { archives = rows; count = set.count + 1 })
+sound_archives rows set new k = record {
+  buses = k.buses;
+  rules = k.rules;
+  arns = k.arns;
+  targets = targets_still set (record set { archives = rows; count = set.count + 1 }) set.buses refl k.targets;
+  queues = k.queues;
+  default = k.default;
+  policies = k.policies;
+  bus_order = k.bus_order;
+  rule_order = k.rule_order;
+  target_order = k.target_order;
+  queue_order = k.queue_order;
+  archives = new;
+}
+
+made_later : (set : RuleSet) (rows : List Archive) → All (MadeBy set.count) rows → All (MadeBy (set.count + 1)) rows
+made_later set rows all = All-weaker (MadeBy set.count) (MadeBy (set.count + 1)) (λ archive made. (made.0, omega (arith, made.1))) rows all
+
+sound_archive : (name bus : List ℕ) (pattern : Option (List ℕ)) (days : ℕ) (set : RuleSet) → IsAllowed (archive_created name bus pattern days) set
+    → IsSound set → IsSound (applied (archive_created name bus pattern days) set)
+sound_archive name bus pattern days set a k =
+    let new : Archive = record { name = name; bus = bus; pattern = pattern; made = set.count + 1 } in
+    let allowed = archive_new name bus pattern days set a in
+    sound_archives (put_archive new set.archives) set (record {
+      few = omega (arith, length_placed archive_name replacing new set.archives, allowed.1);
+      order = sorted_placed archive_name replacing new set.archives (λ old. refl) k.archives.order;
+      buses = All_placed (OnBusOf set) archive_name replacing new set.archives allowed.0 (λ old p. allowed.0) k.archives.buses;
+      versions = All_placed (MadeBy (set.count + 1)) archive_name replacing new set.archives (omega arith, omega arith) (λ old p. (omega arith, omega arith))
+          (made_later set set.archives k.archives.versions);
+    }) k
+
+sound_update : (name : List ℕ) (pattern : Option (List ℕ)) (days : ℕ) (set : RuleSet) → IsSound set → IsSound (applied (archive_updated name pattern days) set)
+sound_update name pattern days set k =
+    let change : Archive → Archive = λ archive. record archive { pattern = pattern } in
+    sound_archives (with_pattern name pattern set.archives) set (record {
+      few = rw length-map k.archives.few;
+      order = sorted_changed archive_name name change set.archives (λ archive. refl) k.archives.order;
+      buses = All_changed (OnBusOf set) (OnBusOf set) archive_name name change set.archives (λ archive p. p) (λ archive p. p) k.archives.buses;
+      versions = All_changed (MadeBy (set.count + 1)) (MadeBy (set.count + 1)) archive_name name change set.archives (λ archive p. p) (λ archive p. p)
+          (made_later set set.archives k.archives.versions);
+    }) k
+
+sound_archive_deletion : (name : List ℕ) (set : RuleSet) → IsSound set → IsSound (applied (archive_deleted name) set)
+sound_archive_deletion name set k =
+    sound_archives (without_archive name set.archives) set (record {
+      few = omega (arith, length_without archive_name name set.archives, k.archives.few);
+      order = sorted_without archive_name name set.archives k.archives.order;
+      buses = All_without (OnBusOf set) archive_name name set.archives k.archives.buses;
+      versions = All_without (MadeBy (set.count + 1)) archive_name name set.archives (made_later set set.archives k.archives.versions);
+    }) k
 
 -- a policy that is put is one as it is stored, and inputs of targets that are put are valid
 abbrev pub HasStored : Control → Type 0
@@ -445,3 +561,6 @@ sound_applied (targets_removed bus rule ids) set a spelled k = sound_removal bus
 sound_applied (policy_put bus policy) set a spelled k = sound_policy bus policy set spelled k
 sound_applied (queue_created name) set a spelled k = sound_queue name set a k
 sound_applied (queue_deleted name) set a spelled k = sound_queue_deletion name set a k
+sound_applied (archive_created name bus pattern days) set a spelled k = sound_archive name bus pattern days set a k
+sound_applied (archive_updated name pattern days) set a spelled k = sound_update name pattern days set k
+sound_applied (archive_deleted name) set a spelled k = sound_archive_deletion name set k

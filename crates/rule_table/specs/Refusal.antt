@@ -18,8 +18,9 @@ use Rattle.rule_table.specs.declared.control.ControlFault.{ControlFault}
 use Rattle.rule_table.specs.declared.control.ControlFault.TheVariants.{ResourceNotFound, AlreadyExists, LimitExceeded, Validation, InUse, HasTargets, DefaultBus}
 use Rattle.rule_table.specs.declared.control.ControlFault.TheVariants.{PolicyTooLong, NoMemory}
 use Rattle.rule_table.specs.Control.{Control, bus_created, bus_deleted, rule_put, rule_deleted, state_put, targets_put, targets_removed, policy_put}
-use Rattle.rule_table.specs.Control.{queue_created, queue_deleted}
-use Rattle.rule_table.specs.RuleSet.{RuleSet, put_target, has_bus, has_rule, has_queue, is_queue_used, rules_of, targets_of, applied}
+use Rattle.rule_table.specs.Control.{queue_created, queue_deleted, archive_created, archive_updated, archive_deleted}
+use Rattle.archive_keep.specs.Archives.{most_archives}
+use Rattle.rule_table.specs.RuleSet.{Archive, RuleSet, put_target, has_bus, has_rule, has_queue, has_archive, archive_at, archives_of, is_queue_used, rules_of, targets_of, applied}
 
 -- The name of the queue, if one is named that does not exist.
 -- Shown by: a_target_of_a_missing_queue_is_put.edit.
@@ -85,19 +86,30 @@ bus_check bus set = unless (has_bus bus set) (ResourceNotFound kind.EventBus)
 abbrev pub rule_checks : List ℕ → List ℕ → RuleSet → List (Option ControlFault)
 rule_checks bus name set = bus_check bus set ∷ unless (has_rule bus name set) (ResourceNotFound kind.Rule) ∷ []
 
+-- the bus has no rule and no archive
+abbrev pub is_bus_unused : List ℕ → RuleSet → Bool
+is_bus_unused bus set = nat_le (length (rules_of bus set)) 0 && nat_le (length (archives_of bus set)) 0
+
+-- there is a pattern, or the archive has none
+abbrev pub keeps_pattern : Option (List ℕ) → Option Archive → Bool
+keeps_pattern pattern None = true
+keeps_pattern pattern (Some archive) = is_some pattern || not (is_some archive.pattern)
+
 -- The conditions on a change, in the order in which their faults are reported. A bus that is created: it does not exist, and there are
--- fewer than 100. A bus that is deleted: it is not `default`, exists, and has no rule. A rule: its bus exists, and it exists or the bus has
--- fewer than 300. A rule that is deleted: its bus exists, it exists, and has no target. A state: the bus and the rule exist. Targets: the bus
--- and the rule exist, there is at least one target, and each has no fault after those before it. Targets that are removed: the bus and the
--- rule exist, there is at least one id, and each is that of a target, once. A policy: its bus exists, and it has at most 10,240 bytes. A queue that is created: it does not exist,
--- and there are fewer than 1,000. A queue that is deleted: it exists, and no target names it.
+-- fewer than 100. A bus that is deleted: it is not `default`, exists, and has no rule and no archive. A rule: its bus exists, and it exists
+-- or the bus has fewer than 300. A rule that is deleted: its bus exists, it exists, and has no target. A state: the bus and the rule exist.
+-- Targets: the bus and the rule exist, there is at least one target, and each has no fault after those before it. Targets that are removed:
+-- the bus and the rule exist, there is at least one id, and each is that of a target, once. A policy: its bus exists, and it has at most
+-- 10,240 bytes. A queue that is created: it does not exist, and there are fewer than 1,000. A queue that is deleted: it exists, and no
+-- target names it. An archive that is created: its bus exists, it does not, and there are fewer than 100. An archive that is updated: it
+-- exists, and does not lose a pattern. An archive that is deleted: it exists.
 -- Shown by: tables rule_table.rows: each_removal_is_made_or_refused, each_bus_is_made_or_refused, each_policy_is_put_or_refused,
 -- a_queue_in_use_stays; table_tests test_rule_table.rt: each_refused_change_has_its_fault.
 abbrev pub checks : Control → RuleSet → List (Option ControlFault)
 checks (bus_created name) set =
     unless (not (has_bus name set)) (AlreadyExists kind.EventBus) ∷ unless (nat_lt (length set.buses) 100) (LimitExceeded kind.EventBus) ∷ []
 checks (bus_deleted name) set =
-    unless (not (bytes_eq name default_bus)) DefaultBus ∷ bus_check name set ∷ unless (nat_le (length (rules_of name set)) 0) (InUse kind.EventBus) ∷ []
+    unless (not (bytes_eq name default_bus)) DefaultBus ∷ bus_check name set ∷ unless (is_bus_unused name set) (InUse kind.EventBus) ∷ []
 checks (rule_put bus name pattern enabled) set =
     bus_check bus set ∷ unless (has_rule bus name set || nat_lt (length (rules_of bus set)) 300) (LimitExceeded kind.Rule) ∷ []
 checks (rule_deleted bus name) set = rule_checks bus name set ++ unless (nat_le (length (targets_of bus name set)) 0) HasTargets ∷ []
@@ -111,6 +123,13 @@ checks (queue_created name) set =
     unless (not (has_queue name set)) (AlreadyExists kind.Queue) ∷ unless (nat_lt (length set.queues) 1000) (LimitExceeded kind.Queue) ∷ []
 checks (queue_deleted name) set =
     unless (has_queue name set) (ResourceNotFound kind.Queue) ∷ unless (not (is_queue_used name set)) (InUse kind.Queue) ∷ []
+checks (archive_created name bus pattern days) set =
+    bus_check bus set ∷ unless (not (has_archive name set)) (AlreadyExists kind.Archive)
+    ∷ unless (nat_lt (length set.archives) most_archives) (LimitExceeded kind.Archive) ∷ []
+checks (archive_updated name pattern days) set =
+    unless (has_archive name set) (ResourceNotFound kind.Archive)
+    ∷ unless (keeps_pattern pattern (archive_at name set)) (Validation member.EventPattern) ∷ []
+checks (archive_deleted name) set = unless (has_archive name set) (ResourceNotFound kind.Archive) ∷ []
 
 -- The first refusal of a change.
 -- Shown by: tables rule_table.rows: each_removal_is_made_or_refused, each_bus_is_made_or_refused, each_policy_is_put_or_refused,

@@ -1,13 +1,13 @@
 -- The rule set: buses with their rules, queues, and the number of changes that made it; and what a change does. The data model is that of
 -- the Amazon EventBridge API Reference.
-use Rattle.std.specs.Prelude.{ℕ, ◌+◌, Bool, false, ◌||◌, if◌then◌else◌, List, [], ◌∷◌, map, take, Option, Some, None, is_some}
+use Rattle.std.specs.Prelude.{ℕ, ◌+◌, Bool, false, ◌||◌, if◌then◌else◌, List, [], ◌∷◌, map, filter, take, Option, Some, None, is_some}
 use Rattle.std.specs.List.{list_any}
 use Rattle.std.specs.Str.{bytes_eq}
 use Rattle.event_shape.specs.Names.{default_bus, rule_arn, queue_arn}
 use Rattle.name_rows.specs.Rows.{named, placed, replacing, without}
 use Rattle.rule_targets.specs.declared.target.Target.{Target}
 use Rattle.rule_table.specs.Control.{Control, bus_created, bus_deleted, rule_put, rule_deleted, state_put, targets_put, targets_removed, policy_put}
-use Rattle.rule_table.specs.Control.{queue_created, queue_deleted}
+use Rattle.rule_table.specs.Control.{queue_created, queue_deleted, archive_created, archive_updated, archive_deleted}
 
 -- A rule: its ARN, its name, its pattern's text, whether it is enabled, and its targets in the byte order of their ids.
 -- Shown by: tables rule_table.rows: each_change_is_made_or_refused.
@@ -25,17 +25,27 @@ pub record Bus : Type 0 where
   pub policy : Option (List ℕ)
   pub rules : List Rule
 
--- The configuration: buses and queues, both in the byte order of their names, and the number of changes that made it.
+-- What matching has to know of an archive: its name, its bus, its pattern's text if it has a pattern, and the configuration version after
+-- its creation.
+-- Shown by: proofs alone.
+pub record Archive : Type 0 where
+  pub name : List ℕ
+  pub bus : List ℕ
+  pub pattern : Option (List ℕ)
+  pub made : ℕ
+
+-- The configuration: buses, queues and archives, each in the byte order of their names, and the number of changes that made it.
 -- Shown by: tables rule_table.rows: each_change_is_made_or_refused.
 pub record RuleSet : Type 0 where
   pub buses : List Bus
   pub queues : List (List ℕ)
+  pub archives : List Archive
   pub count : ℕ
 
--- The bus `default` without rules, and no queue.
+-- The bus `default` without rules, no queue and no archive.
 -- Shown by: tables rule_table.rows: the_first_set_has_one_bus, a_set_shows_its_queues.
 abbrev pub first_set : RuleSet
-first_set = record { buses = record { name = default_bus; policy = None; rules = [] } ∷ []; queues = []; count = 0 }
+first_set = record { buses = record { name = default_bus; policy = None; rules = [] } ∷ []; queues = []; archives = []; count = 0 }
 
 -- The rows, with a change made to each one of the name.
 -- Shown by: tables rule_table.rows: each_change_is_made_or_refused.
@@ -92,6 +102,18 @@ put_queue = placed (λ name. name) replacing
 abbrev pub without_queue : List ℕ → List (List ℕ) → List (List ℕ)
 without_queue = without (λ name. name)
 
+-- the archives with one more
+abbrev pub put_archive : Archive → List Archive → List Archive
+put_archive = placed (λ archive. archive.name) replacing
+
+-- the archives without the one of this name
+abbrev pub without_archive : List ℕ → List Archive → List Archive
+without_archive = without (λ archive. archive.name)
+
+-- the archives with this pattern for the one of this name, or with none
+abbrev pub with_pattern : List ℕ → Option (List ℕ) → List Archive → List Archive
+with_pattern name pattern = changed (λ archive. archive.name) name (λ archive. record archive { pattern = pattern })
+
 -- the rules of the bus; none if there is no bus
 abbrev pub rules_in : Option Bus → List Rule
 rules_in None = []
@@ -132,6 +154,21 @@ has_bus bus set = is_some (named (λ b. b.name) bus set.buses)
 -- Shown by: tables rule_table.rows: a_set_shows_its_queues, a_bus_shows_its_rule.
 abbrev pub has_queue : List ℕ → RuleSet → Bool
 has_queue name set = is_some (named (λ queue. queue) name set.queues)
+
+-- The archive of this name, if there is one.
+-- Shown by: proofs alone.
+abbrev pub archive_at : List ℕ → RuleSet → Option Archive
+archive_at name set = named (λ archive. archive.name) name set.archives
+
+-- The archive exists.
+-- Shown by: proofs alone.
+abbrev pub has_archive : List ℕ → RuleSet → Bool
+has_archive name set = is_some (archive_at name set)
+
+-- The archives of a bus, in the byte order of their names.
+-- Shown by: proofs alone.
+abbrev pub archives_of : List ℕ → RuleSet → List Archive
+archives_of bus set = filter (λ archive. bytes_eq archive.bus bus) set.archives
 
 -- the ARN of a dead-letter queue, if one is given, is that of the queue of this name
 abbrev pub is_dead_letter_of : List ℕ → Option (List ℕ) → Bool
@@ -191,6 +228,12 @@ applied (targets_put bus rule targets) set = record set {
 }
 applied (queue_created name) set = record set { queues = put_queue name set.queues; count = set.count + 1 }
 applied (queue_deleted name) set = record set { queues = without_queue name set.queues; count = set.count + 1 }
+applied (archive_created name bus pattern days) set = record set {
+  archives = put_archive (record { name = name; bus = bus; pattern = pattern; made = set.count + 1 }) set.archives;
+  count = set.count + 1;
+}
+applied (archive_updated name pattern days) set = record set { archives = with_pattern name pattern set.archives; count = set.count + 1 }
+applied (archive_deleted name) set = record set { archives = without_archive name set.archives; count = set.count + 1 }
 
 -- the rule set after these changes, oldest first
 abbrev pub applied_all : List Control → RuleSet → RuleSet

@@ -61,6 +61,23 @@ pub enum Control {
     QueueDeleted {
         name: Text,
     },
+    /// Creates an archive of a bus. Without a pattern it keeps each event of the bus. With 0 days it keeps events forever.
+    ArchiveCreated {
+        name: Text,
+        bus: Text,
+        pattern: Option<SharedPattern>,
+        days: u32,
+    },
+    /// Gives the archive this pattern and these days, both as they are after the change.
+    ArchiveUpdated {
+        name: Text,
+        pattern: Option<SharedPattern>,
+        days: u32,
+    },
+    /// Deletes an archive with its events.
+    ArchiveDeleted {
+        name: Text,
+    },
 }
 
 /// Why a target is not put to a rule, in the order of the checks.

@@ -1,12 +1,12 @@
 //! Rule sets, and the rule set after a change.
-ghost use Rattle.std.specs.Prelude.{◌≡◌, ◌+◌, ◌^◌, ◌<◌, ◌≤◌, ℕ, List, Option, None, false, true, Some, All, map, nat_le, if◌then◌else◌, IfOk, MatchOption, MatchResult, length};
+ghost use Rattle.std.specs.Prelude.{◌≡◌, ◌+◌, ◌^◌, ◌<◌, ◌≤◌, ◌&&◌, ℕ, List, Option, None, false, true, Some, All, map, nat_le, if◌then◌else◌, IfOk, MatchOption, MatchResult, length};
 ghost use Rattle.std.specs.Option.{option_map, option_and_then};
 ghost use Rattle.std.specs.Str.{bytes_eq};
 ghost use Rattle.json_text.specs.Checks.{first_fault};
 ghost use Rattle.event_shape.specs.Names.{default_bus, queue_in};
 ghost use Rattle.name_rows.specs.Rows.{named, placed, replacing};
 ghost use Rattle.rule_table.specs.Control.{bus_created, bus_deleted, rule_put, rule_deleted, state_put, targets_put, targets_removed, policy_put};
-ghost use Rattle.rule_table.specs.Control.{queue_created, queue_deleted};
+ghost use Rattle.rule_table.specs.Control.{queue_created, queue_deleted, archive_created, archive_updated, archive_deleted};
 ghost use Rattle.rule_table.specs.RuleSet as spec;
 ghost use Rattle.rule_table.specs.Refusal as refusal;
 ghost use Rattle.rule_table.specs.Refusal.{IsChanged};
@@ -15,6 +15,7 @@ ghost use Rattle.rule_table.specs.WellFormed.{HasValidInput};
 ghost use Rattle.rule_table.specs.Target.{target_of, stored_in, IsStoredOf};
 ghost use Rattle.rule_table.specs.View.{control_of};
 
+use crate::archive_row::ArchiveRow;
 use crate::bus::Bus;
 use crate::control::{Control, ControlFault, TargetFault};
 use crate::policy::{StoredPolicy, short_policy};
@@ -22,6 +23,7 @@ use crate::rule::Rule;
 use crate::rule_target::RuleTarget;
 use crate::targets::{after_removal, is_sixth, pointers, put_in_order};
 use api_replies::{Kind, Member};
+use archive_keep::MOST_ARCHIVES;
 use event_shape::{DEFAULT_BUS, queue_of};
 use json_text::{NoMemory, Text};
 use name_rows::{Rows, RowsFrom};
@@ -36,11 +38,13 @@ const MOST_QUEUES: usize = 1000;
 /// The greatest number of buses.
 const MOST_BUSES: usize = 100;
 
-/// Buses with their rules, and queues. A change makes a new rule set, which shares unchanged parts with the old one.
+/// Buses with their rules, queues, and archives without their events. A change makes a new rule set, which shares unchanged parts with
+/// the old one.
 #[derive(Debug, Drop)]
 pub struct RuleSet {
     buses: Rows<Bus>,
     queues: Rows<Text>,
+    archives: Rows<ArchiveRow>,
     count: u64,
 }
 
@@ -50,13 +54,13 @@ impl Model for RuleSet {
 
     ghost Value = { View };
 
-    ghost view = { λ s. record { buses = s.buses; queues = s.queues; count = s.count } };
+    ghost view = { λ s. record { buses = s.buses; queues = s.queues; archives = s.archives; count = s.count } };
 
-    ghost invariant = { λ s. IsSound (record { buses = s.buses; queues = s.queues; count = s.count }) };
+    ghost invariant = { λ s. IsSound (record { buses = s.buses; queues = s.queues; archives = s.archives; count = s.count }) };
 }
 
 impl RuleSet {
-    /// The rule set before any change: the bus `default`, with no rule and no queue.
+    /// The rule set before any change: the bus `default`, with no rule, no queue and no archive.
     pub fn first(alloc: Global) -> Result<RuleSet, NoMemory>
         ensures { IfOk result (λ set. set ≡ spec.first_set) }
     {
@@ -68,17 +72,19 @@ impl RuleSet {
         Ok(RuleSet {
             buses: Rows::new(alloc)?.with(alloc, bus)?,
             queues: Rows::new(alloc)?,
+            archives: Rows::new(alloc)?,
             count: 0,
         })
     }
 
-    /// The same rule set, which shares all its parts. Copies two pointers.
+    /// The same rule set, which shares all its parts. Copies three pointers.
     pub fn share(&self) -> Result<RuleSet, NoMemory>
         ensures { IfOk result (λ set. set ≡ self.now) }
     {
         Ok(RuleSet {
             buses: self.buses.share()?,
             queues: self.queues.share()?,
+            archives: self.archives.share()?,
             count: self.count,
         })
     }
@@ -109,6 +115,18 @@ impl RuleSet {
             Control::PolicyPut { bus, policy } => self.put_policy(alloc, bus, policy),
             Control::QueueCreated { name } => self.create_queue(alloc, name),
             Control::QueueDeleted { name } => self.delete_queue(alloc, name),
+            Control::ArchiveCreated {
+                name,
+                bus,
+                pattern,
+                days,
+            } => { self.create_archive(alloc, name, bus, pattern, *days) }
+            Control::ArchiveUpdated {
+                name,
+                pattern,
+                days,
+            } => { self.update_archive(alloc, name, pattern, *days) }
+            Control::ArchiveDeleted { name } => self.delete_archive(alloc, name),
         }
     }
 
@@ -238,6 +256,22 @@ impl RuleSet {
         self.queues.iter()
     }
 
+    /// The archive with this name.
+    pub fn archive(&self, name: &str) -> Option<&ArchiveRow>
+        ensures { MatchOption result
+            (spec.archive_at name.now self.now ≡ None)
+            (λ archive. spec.archive_at name.now self.now ≡ Some archive.now) }
+    {
+        self.archives.find(name)
+    }
+
+    /// The archives, in the byte order of their names.
+    pub fn archives(&self) -> RowsFrom<'_, ArchiveRow>
+        ensures { result ≡ self.now.archives }
+    {
+        self.archives.iter()
+    }
+
     /// The number of changes that made this rule set.
     pub fn control_count(&self) -> u64
         ensures count { result ≡ self.now.count }
@@ -334,7 +368,8 @@ impl RuleSet {
         if is_default(name.as_str()) {
             return Err(ControlFault::DefaultBus);
         }
-        if self.bus_in(name)?.has_rules() {
+        let bus = self.bus_in(name)?;
+        if !self.is_unused(name, bus) {
             return Err(ControlFault::InUse(Kind::EventBus));
         }
         Ok(self.without_bus(alloc, name)?)
@@ -428,6 +463,97 @@ impl RuleSet {
         Ok(self.without_queue(alloc, name)?)
     }
 
+    fn create_archive(
+        &self,
+        alloc: Global,
+        name: &Text,
+        bus: &Text,
+        pattern: &Option<SharedPattern>,
+        _days: u32,
+    ) -> Result<RuleSet, ControlFault>
+        requires { self.now.count < 2 ^ 63 }
+        ensures { IsChanged (archive_created name.now bus.now pattern.now _days) self.now result }
+    {
+        self.bus_in(bus)?;
+        if self.has_archive(name.as_str()) {
+            return Err(ControlFault::AlreadyExists(Kind::Archive));
+        }
+        if self.archives.reach(MOST_ARCHIVES) {
+            return Err(ControlFault::LimitExceeded(Kind::Archive));
+        }
+        let row = ArchiveRow::new(alloc, name, bus, pattern, self.next_count())?;
+        Ok(self.with_archive(alloc, row)?)
+    }
+
+    fn update_archive(
+        &self,
+        alloc: Global,
+        name: &Text,
+        pattern: &Option<SharedPattern>,
+        _days: u32,
+    ) -> Result<RuleSet, ControlFault>
+        requires { self.now.count < 2 ^ 63 }
+        ensures { IsChanged (archive_updated name.now pattern.now _days) self.now result }
+    {
+        let old = self.archive_in(name)?;
+        if !old.keeps_pattern(pattern) {
+            return Err(ControlFault::Validation(Member::EventPattern));
+        }
+        let new = old.with_pattern(pattern)?;
+        Ok(self.with_archive(alloc, new)?)
+    }
+
+    fn delete_archive(&self, alloc: Global, name: &Text) -> Result<RuleSet, ControlFault>
+        requires { self.now.count < 2 ^ 63 }
+        ensures { IsChanged (archive_deleted name.now) self.now result }
+    {
+        self.archive_in(name)?;
+        Ok(self.without_archive(alloc, name)?)
+    }
+
+    /// The archive of this name, or its fault, in a rule set that is sound.
+    fn archive_in(&self, name: &Text) -> Result<&ArchiveRow, ControlFault>
+        ensures found { MatchResult result
+            (λ archive. spec.archive_at name.now self.now ≡ Some archive.now)
+            (λ fault. (spec.archive_at name.now self.now ≡ None) × (fault ≡ ControlFault.ResourceNotFound Kind.Archive)) }
+        ensures sound { IsSound self.now }
+    {
+        match self.archives.find(name.as_str()) {
+            Some(archive) => Ok(archive),
+            None => Err(ControlFault::ResourceNotFound(Kind::Archive)),
+        }
+    }
+
+    fn has_archive(&self, name: &str) -> bool
+        ensures { result ≡ spec.has_archive name.now self.now }
+    {
+        self.archive(name).is_some()
+    }
+
+    /// Whether the bus, which has this name, has no rule and no archive.
+    fn is_unused(&self, name: &Text, bus: &Bus) -> bool
+        ensures { result ≡ (nat_le (length bus.now.rules) 0 && nat_le (length (spec.archives_of name.now self.now)) 0) }
+    {
+        if bus.has_rules() {
+            false
+        } else {
+            self.has_no_archive(name.as_str())
+        }
+    }
+
+    /// Whether the bus has no archive.
+    fn has_no_archive(&self, bus: &str) -> bool
+        ensures { result ≡ nat_le (length (spec.archives_of bus.now self.now)) 0 }
+    {
+        let mut archives = self.archives.iter();
+        while let Some(archive) = archives.next() {
+            if archive.bus() == bus {
+                return false;
+            }
+        }
+        true
+    }
+
     /// Whether a target of some rule names the queue, as its own or as its dead-letter queue, in a rule set that is sound.
     fn uses_queue(&self, queue: &str) -> bool
         ensures used { result ≡ spec.is_queue_used queue.now self.now }
@@ -497,6 +623,7 @@ impl RuleSet {
         Ok(RuleSet {
             buses: self.buses.with(alloc, bus)?,
             queues: self.queues.share()?,
+            archives: self.archives.share()?,
             count: self.next_count(),
         })
     }
@@ -510,6 +637,7 @@ impl RuleSet {
         Ok(RuleSet {
             buses: self.buses.without(alloc, name.as_str())?,
             queues: self.queues.share()?,
+            archives: self.archives.share()?,
             count: self.next_count(),
         })
     }
@@ -523,6 +651,7 @@ impl RuleSet {
         Ok(RuleSet {
             buses: self.buses.share()?,
             queues: self.queues.with(alloc, queue)?,
+            archives: self.archives.share()?,
             count: self.next_count(),
         })
     }
@@ -536,6 +665,35 @@ impl RuleSet {
         Ok(RuleSet {
             buses: self.buses.share()?,
             queues: self.queues.without(alloc, name.as_str())?,
+            archives: self.archives.share()?,
+            count: self.next_count(),
+        })
+    }
+
+    /// The set with this archive in place of the one of its name.
+    fn with_archive(&self, alloc: Global, archive: ArchiveRow) -> Result<RuleSet, NoMemory>
+        requires count { self.now.count < 2 ^ 63 }
+        requires sound { IsSound (record self.now { archives = spec.put_archive archive self.now.archives; count = self.now.count + 1 }) }
+        ensures { IfOk result (λ set. set ≡ record self.now { archives = spec.put_archive archive self.now.archives; count = self.now.count + 1 }) }
+    {
+        Ok(RuleSet {
+            buses: self.buses.share()?,
+            queues: self.queues.share()?,
+            archives: self.archives.with(alloc, archive)?,
+            count: self.next_count(),
+        })
+    }
+
+    /// The set without the archive of this name.
+    fn without_archive(&self, alloc: Global, name: &Text) -> Result<RuleSet, NoMemory>
+        requires count { self.now.count < 2 ^ 63 }
+        requires sound { IsSound (record self.now { archives = spec.without_archive name.now self.now.archives; count = self.now.count + 1 }) }
+        ensures { IfOk result (λ set. set ≡ record self.now { archives = spec.without_archive name.now self.now.archives; count = self.now.count + 1 }) }
+    {
+        Ok(RuleSet {
+            buses: self.buses.share()?,
+            queues: self.queues.share()?,
+            archives: self.archives.without(alloc, name.as_str())?,
             count: self.next_count(),
         })
     }

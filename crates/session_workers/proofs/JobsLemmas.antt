@@ -1,7 +1,7 @@
 -- Acts of a worker from the beginning of a history. What a worker did, and then a session: `done_session`; delivery steps: `done_steps`; a look:
 -- `done_looked`; a reading: `done_read`. Several of these: `goes_again`, `goes_beside`, `stays_beside`. A look, as the hall shows it:
 -- `look_learns`, `stops_if`.
-use Rattle.std.proofs.Common.{◌≡◌, ℕ, ◌≤◌, List, [], ◌∷◌, ◌++◌, length, Option, Some, None, refl, sym, ap, ◌∙◌, map, subst, arith, append_assoc, append-nil}
+use Rattle.std.proofs.Common.{◌≡◌, ℕ, ◌≤◌, List, [], ◌∷◌, ◌++◌, Some, None, refl, sym, ap, ◌∙◌, map, subst, arith, append_assoc, append-nil}
 use Rattle.std.specs.Prelude.{Bool, true, false, not, MatchBool}
 use Rattle.std.proofs.lemmas.Bool.{true≢false}
 use Rattle.router_core.specs.Tables.{first_tables}
@@ -9,11 +9,11 @@ use Rattle.courier_run.specs.Act.{reads, ticks, looks, makes, tries, writes}
 use Rattle.router_history.specs.History.{Turn, State, last_version, begun, after_turn, state_after, state_of, turns_by, AreTurnsFrom}
 use Rattle.router_history.specs.Book.{opening_on, IsBook}
 use Rattle.router_history.specs.Acts.{Act, Happens, IsNamed, world}
-use Rattle.router_history.proofs.TurnLemmas.{state_append, turns_back, none_append, versions_grow, first_other}
+use Rattle.router_history.proofs.TurnLemmas.{state_append, turns_back, versions_grow}
 use Rattle.router_history.proofs.BookLemmas.{opened_state, legal_later}
 use Rattle.router_history.specs.History.{HasMark}
 use Rattle.router_history.proofs.MarkLemmas.{marked, breaks_so}
-use Rattle.router_history.proofs.ActLemmas.{happens_append}
+use Rattle.router_history.proofs.ActLemmas.{happens_others, happens_append}
 use Rattle.courier_run.specs.Link.{Outside, outside, Goes}
 use Rattle.courier_run.proofs.ActLemmas.{Goes-append}
 use Rattle.router_history.specs.declared.book.Seat.{Seat}
@@ -37,39 +37,12 @@ use Rattle.router_history.specs.Visit.{is_cut}
 use Rattle.router_sessions.proofs.SessionLemmas.{unlooked}
 use Rattle.router_sessions.proofs.DeskLemmas.{own_turns}
 
--- turns of others come first, and the version does not fall by them
-after_others : (n : ℕ) (s : State) (xs ys : List Turn) (acts : List Act) → last_version s ≤ last_version (state_after xs s) → turns_by n xs ≡ []
-    → Happens n (state_after xs s) ys acts → Happens n s (xs ++ ys) acts
-after_others n s xs ys [] grow none h = none_append n xs ys none h
-after_others n s xs ys (makes p ∷ acts) grow none (others, rest, is, other, pass, before, known, h) = (
-  xs ++ others,
-  rest,
-  ap (λ (ts : List Turn). xs ++ ts) is ∙ sym (append_assoc xs others (p.turn ∷ rest)),
-  none_append n xs others none other,
-  pass,
-  before ∙ sym (state_append s xs others),
-  omega (arith, grow, known),
-  h,
-)
-after_others n s xs ys (looks state ∷ acts) grow none (others, rest, is, other, shows, h) = (
-  xs ++ others,
-  rest,
-  ap (λ (ts : List Turn). xs ++ ts) is ∙ sym (append_assoc xs others rest),
-  none_append n xs others none other,
-  shows ∙ sym (state_append s xs others),
-  h,
-)
-after_others n s xs ys (reads piece ∷ acts) grow none h = after_others n s xs ys acts grow none h
-after_others n s xs ys (ticks reading ∷ acts) grow none h = after_others n s xs ys acts grow none h
-after_others n s xs ys (tries claim outcome ∷ acts) grow none h = after_others n s xs ys acts grow none h
-after_others n s xs ys (writes bytes ∷ acts) grow none h = after_others n s xs ys acts grow none h
-
 -- acts from before the turn that opens a book, which no pass made, and then later ones
 opened_append : (n : ℕ) (s : State) (o : Turn) (xs ys : List Turn) (first second : List Act) → o.pass ≡ None → AreTurnsFrom (after_turn o s) xs
     → last_version s ≤ last_version (after_turn o s) → Happens n s (o ∷ xs) first → Happens n (state_after xs (after_turn o s)) ys second
     → Happens n s (o ∷ (xs ++ ys)) (first ++ second)
 opened_append n s o xs ys [] second none legal grow h later =
-    let grows = versions_grow xs (after_turn o s) legal in after_others n s (o ∷ xs) ys second (omega (arith, grow, grows)) h later
+    let grows = versions_grow xs (after_turn o s) legal in happens_others n s (o ∷ xs) ys second (omega (arith, grow, grows)) h later
 opened_append n s o xs ys (makes p ∷ first) second none legal grow ([], rest, is, other, pass, before, known, h) later =
     let e : o ≡ p.turn = cc (is) in absurd (cc (pass, none, e))
 opened_append n s o xs ys (makes p ∷ first) second none legal grow (t ∷ others, rest, is, other, pass, before, known, h) later =

@@ -3,7 +3,8 @@
 //! A queue or a bus: `queue|NAME`, `no queue|NAME`, `bus|NAME`, `no bus|NAME`, `no policy|NAME`. A rule: `rule|BUS|NAME|PATTERN`,
 //! `no rule|BUS|NAME`, `enable|BUS|NAME`. Targets: `put|COUNT|BUS|RULE|TARGET`, so many times the same one, and `remove|BUS|RULE|IDS`, the
 //! ids apart by commas. A policy: `policy|BUS|TEXT`. TARGET is `ID|ARN|ATTEMPTS|AGE|DEAD`: the numbers of the retry policy and the ARN of
-//! the dead-letter queue. Its last three parts may be empty.
+//! the dead-letter queue. Its last three parts may be empty. An archive: `archive|NAME|BUS|DAYS|PATTERN`, `update|NAME|DAYS|PATTERN`,
+//! `no archive|NAME`; without PATTERN it has no pattern.
 use bus_policy::Policy;
 use json_text::Text;
 use pattern_read::SharedPattern;
@@ -74,7 +75,7 @@ fn targets_put(alloc: Global, parts: &str) -> Result<Control, Fail> {
 }
 
 /// The texts apart by commas; none if there is nothing.
-fn texts(alloc: Global, parts: &str) -> Result<Vec<Text>, Fail> {
+pub(crate) fn texts(alloc: Global, parts: &str) -> Result<Vec<Text>, Fail> {
     let mut texts = Vec::new(alloc);
     if parts.is_empty() {
         return Ok(texts);
@@ -111,6 +112,38 @@ fn rule_put(alloc: Global, parts: &str) -> Result<Control, Fail> {
     })
 }
 
+fn optional_pattern(alloc: Global, given: &str) -> Result<Option<SharedPattern>, Fail> {
+    match optional_text(alloc, given)? {
+        Some(given) => Ok(Some(pattern(alloc, given)?)),
+        None => Ok(None),
+    }
+}
+
+fn archive_created(alloc: Global, parts: &str) -> Result<Control, Fail> {
+    let (name, bus, days, given) = four(parts);
+    let days = number(days)?;
+    let pattern = optional_pattern(alloc, given)?;
+    let (name, bus) = names(alloc, name, bus)?;
+    Ok(Control::ArchiveCreated {
+        name,
+        bus,
+        pattern,
+        days,
+    })
+}
+
+fn archive_updated(alloc: Global, parts: &str) -> Result<Control, Fail> {
+    let (name, days, given) = three(parts);
+    let days = number(days)?;
+    let pattern = optional_pattern(alloc, given)?;
+    let name = text(alloc, name)?;
+    Ok(Control::ArchiveUpdated {
+        name,
+        pattern,
+        days,
+    })
+}
+
 fn policy(alloc: Global, given: &str) -> Result<StoredPolicy, Fail> {
     match Policy::read(alloc, given.as_bytes()) {
         Ok(policy) => Ok(StoredPolicy::new(alloc, policy)?),
@@ -136,13 +169,14 @@ fn of_rule(alloc: Global, word: &str, parts: &str) -> Result<Control, Fail> {
     Ok(Control::RuleDeleted { bus, name })
 }
 
-/// The change of a queue or of a bus that this word names.
+/// The change of a queue, of a bus or of an archive that this word names.
 fn of_one(word: &str, name: Text) -> Control {
     match word {
         "queue" => Control::QueueCreated { name },
         "no queue" => Control::QueueDeleted { name },
         "bus" => Control::BusCreated { name },
         "no bus" => Control::BusDeleted { name },
+        "no archive" => Control::ArchiveDeleted { name },
         _ => Control::PolicyPut {
             bus: name,
             policy: None,
@@ -158,8 +192,10 @@ pub(crate) fn control(alloc: Global, change: &str) -> Result<Control, Fail> {
         "put" => targets_put(alloc, parts),
         "remove" => targets_removed(alloc, parts),
         "policy" => policy_put(alloc, parts),
+        "archive" => archive_created(alloc, parts),
+        "update" => archive_updated(alloc, parts),
         "no rule" | "enable" => of_rule(alloc, word, parts),
-        "queue" | "no queue" | "bus" | "no bus" | "no policy" => Ok(of_one(
+        "queue" | "no queue" | "bus" | "no bus" | "no archive" | "no policy" => Ok(of_one(
             word,
             text(alloc, parts)?,
         )),

@@ -44,6 +44,16 @@ no queue|q.1|false
 policy|b|{"Version":"2012-10-17","Statement":[{"Effect":"Allow","Principal":"*","Action":"*","Resource":"*"}]}|true
 no policy|b|true
 no policy|a b|false
+archive|a.B-c_9|default|2147483647|{"source":["x"]}|true
+archive|a|b|2147483648||false
+archive|aaaaaaaaaaaaaaaaaaaaaaaaaaaaaaaaaaaaaaaaaaaaaaaaa|b|0||false
+archive||b|0||false
+archive|a|b/|0||false
+update|a|0||true
+update|a|2147483648||false
+update|a b|0||false
+no archive|a|true
+no archive||false
 "#;
 
 /// Changes in turn, and the refusal of each; nothing if it is made. Most refusals are of changes that no request makes. Worked by hand.
@@ -66,6 +76,22 @@ put|1|default|r|a|arn:aws:sqs:us-east-1:111122223333:q||||Targets
 no rule|default|s|no Rule
 no rule|default|r|
 no rule|default|r|no Rule
+archive|a|nope|0||no Event bus
+update|a|1||no Archive
+no archive|a|no Archive
+archive|a|default|0|{"source":["x"]}|
+update|a|1||EventPattern
+update|a|1|{"source":["y"]}|
+archive|a|default|0||again Archive
+bus|b|
+archive|c|b|0||
+update|c|1||
+update|c|1|{"source":["y"]}|
+no bus|b|in use Event bus
+no archive|c|
+no bus|b|
+no archive|a|
+no archive|a|no Archive
 "#;
 
 fn is_formed(alloc: Global, control: &Control) -> Result<bool, Fail> {
@@ -84,14 +110,16 @@ fn is_form_met(alloc: Global, row: &str) -> Result<bool, Fail> {
 
 #[test]
 fn changes_are_well_formed(rt: HostRuntime) -> Result<(), Fail> {
-    all_met(rt.alloc(), FORMS, 36, is_form_met)
+    all_met(rt.alloc(), FORMS, 46, is_form_met)
 }
 
-/// What a row has of the fault, in two parts: nothing and a member that is not valid, or `no ` and a kind of things of which one is
-/// missing. No row has another fault.
+/// What a row has of the fault, in two parts: nothing and a member that is not valid; `no `, `again ` or `in use ` and a kind of things of
+/// which one is missing, exists or is in use. No row has another fault.
 fn parts_of(fault: &ControlFault) -> (&'static str, &'static str) {
     match fault {
         ControlFault::ResourceNotFound(kind) => ("no ", kind.word()),
+        ControlFault::AlreadyExists(kind) => ("again ", kind.word()),
+        ControlFault::InUse(kind) => ("in use ", kind.word()),
         ControlFault::Validation(member) => ("", member.name()),
         _ => ("another fault", "that no row has"),
     }
@@ -130,12 +158,12 @@ fn is_change_met(alloc: Global, set: &mut RuleSet, row: &str) -> Result<bool, Fa
 
 #[test]
 fn each_refused_change_has_its_fault(rt: HostRuntime) -> Result<(), Fail> {
-    assert_eq!(rt; CHANGES.lines().count(), 19);
+    assert_eq!(rt; CHANGES.lines().count(), 35);
     let mut set = RuleSet::first(rt.alloc())?;
     for row in CHANGES.lines() {
         assert!(rt; is_change_met(rt.alloc(), &mut set, row)?, "{row}");
     }
-    assert_eq!(rt; set.control_count(), 8);
+    assert_eq!(rt; set.control_count(), 17);
     Ok(())
 }
 

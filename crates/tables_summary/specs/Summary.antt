@@ -1,5 +1,6 @@
 -- The last lines of a program that serves or drills: what its tables count.
 use Rattle.std.specs.Prelude.{◌≡◌, ◌⊎◌, ℕ, List, ◌++◌, length}
+use Rattle.archive_keep.specs.Archives.{event_count}
 use Rattle.delivery_duties.specs.Duties.{delivered_of, dead_lettered_of, dropped_of}
 use Rattle.delivery_queues.specs.Queues.{message_count}
 use Rattle.program_lines.specs.declared.printed.Summary.{Summary}
@@ -8,16 +9,17 @@ use Rattle.program_lines.specs.declared.status.Status.TheVariants as statuses
 use Rattle.program_lines.specs.Printed.{summary_lines}
 use Rattle.router_core.specs.Tables.{Tables}
 
--- What the tables count: batches, their operations and configuration changes, events, deliveries by their states, and messages in queues.
--- Archived events and replays are 0.
--- Shown by: program_tests serve.rt: two_workers_serve_the_first_run.
+-- What the tables count: batches, their operations and configuration changes, events, the events that archives keep, an event once for each
+-- of its archives, deliveries by their states, and messages in queues. Archives keep only what they retain at the moment of the last batch
+-- (router_core `after_batch`). Replays are 0.
+-- Shown by: program_tests serve.rt: two_workers_serve_the_first_run; archived_events_are_not_counted.edit.
 abbrev pub summary_of : Tables → Summary
 summary_of t = record {
   records = t.batches;
   entries = t.entries;
   control = t.set.count;
   events = t.events;
-  archived = 0;
+  archived = event_count t.archives;
   replays = 0;
   duties = t.duties.created;
   pending = length t.duties.pending;

@@ -1,5 +1,6 @@
 //! The summary that a program prints at its end.
 ghost use Rattle.std.specs.Prelude.{◌≡◌, ◌≢◌};
+ghost use Rattle.archive_keep.specs.Archives.{event_count};
 ghost use Rattle.router_disk.specs.Faults.{Rose};
 ghost use Rattle.program_lines.specs.declared.status.Status.TheVariants as statuses;
 ghost use Rattle.tables_summary.specs.Summary.{summary_of, IsSummed};
@@ -34,7 +35,7 @@ fn summary(tables: &Tables) -> Summary
         entries: tables.entries(),
         control: tables.set().control_count(),
         events: tables.events(),
-        archived: 0,
+        archived: archived(tables),
         replays: 0,
         duties: counts.created,
         pending: counts.pending,
@@ -43,4 +44,14 @@ fn summary(tables: &Tables) -> Summary
         dropped: counts.dropped,
         messages: tables.messages(),
     }
+}
+
+/// The number of events that archives keep, an event once for each of its archives.
+fn archived(tables: &Tables) -> u64
+    ensures { result ≡ event_count tables.now.archives }
+{
+    // Read for what holds of all tables: there are at most 100 archives, and none keeps more events than there are.
+    let _version = tables.set().control_count();
+    let _full = tables.full();
+    tables.archives().count()
 }

@@ -4,7 +4,7 @@ ghost use Rattle.std.specs.Option.{option_map, option_copied};
 ghost use Rattle.json_text.specs.Tree.{members_of};
 ghost use Rattle.json_text.specs.View.{tree_of, pairs_of};
 ghost use Rattle.api_members.specs.Refusal.{AreSound, IsFirstRefusal, RefusedFor};
-ghost use Rattle.api_wire.specs.Call.{asked, permission_asked, local_operation, named_operation, operation_of, MayCall};
+ghost use Rattle.api_wire.specs.Call.{asked, permission_asked, local_operation, archive_operation, named_operation, operation_of, MayCall};
 
 use api_members::{Asked, CallFault, Syntax, check_members, given};
 use api_replies::Member;
@@ -33,6 +33,11 @@ pub enum Operation {
     RemovePermission,
     PutEvents,
     TestEventPattern,
+    CreateArchive,
+    UpdateArchive,
+    DeleteArchive,
+    DescribeArchive,
+    ListArchives,
     CreateQueue,
     DeleteQueue,
     PeekMessages,
@@ -85,6 +90,20 @@ fn named_operation(name: &str) -> Option<Operation>
         "AWSEvents.RemovePermission" => Some(Operation::RemovePermission),
         "AWSEvents.PutEvents" => Some(Operation::PutEvents),
         "AWSEvents.TestEventPattern" => Some(Operation::TestEventPattern),
+        _ => archive_operation(name),
+    }
+}
+
+/// The operations on archives.
+fn archive_operation(name: &str) -> Option<Operation>
+    ensures { result ≡ archive_operation name.now }
+{
+    match name {
+        "AWSEvents.CreateArchive" => Some(Operation::CreateArchive),
+        "AWSEvents.UpdateArchive" => Some(Operation::UpdateArchive),
+        "AWSEvents.DeleteArchive" => Some(Operation::DeleteArchive),
+        "AWSEvents.DescribeArchive" => Some(Operation::DescribeArchive),
+        "AWSEvents.ListArchives" => Some(Operation::ListArchives),
         _ => local_operation(name),
     }
 }
@@ -107,6 +126,9 @@ fn local_operation(name: &str) -> Option<Operation>
 /// The greatest number that a message can have.
 pub(super) const LAST_NUMBER: u64 = 281_474_976_710_655;
 
+/// The most days for which an archive keeps events.
+pub(super) const MOST_DAYS: u64 = 2_147_483_647;
+
 /// A member that names a bus; without it the bus is `default`.
 const BUS: Asked = Asked::Optional(Member::EventBusName, Syntax::Bus);
 
@@ -123,6 +145,11 @@ const QUEUE: Asked = Asked::Required(Member::QueueName, Syntax::QueueName);
 
 const PATTERN: Asked = Asked::Required(Member::EventPattern, Syntax::Pattern);
 
+const ARCHIVE: Asked = Asked::Required(Member::ArchiveName, Syntax::ArchiveName);
+
+/// The pattern of an archive, which may keep all events.
+const ARCHIVE_PATTERN: Asked = Asked::Optional(Member::EventPattern, Syntax::Pattern);
+
 /// A Condition is not served.
 const CONDITION: Asked = Asked::Optional(Member::Condition, Syntax::Unserved);
 
@@ -137,6 +164,15 @@ const NUMBER: Syntax = Syntax::Count {
     least: 0,
     most: LAST_NUMBER,
 };
+
+/// How many days an archive keeps events; 0 is forever.
+const DAYS: Asked = Asked::Optional(
+    Member::RetentionDays,
+    Syntax::Count {
+        least: 0,
+        most: MOST_DAYS,
+    },
+);
 
 /// Checks the members against what the operation asks of them, and returns the first refusal.
 pub(super) fn check_asked(
@@ -186,6 +222,19 @@ fn asked(operation: Operation, members: &[(Text, Json)]) -> &'static [Asked]
         ],
         Operation::PutEvents => &[Asked::Required(Member::Entries, Syntax::Entries)],
         Operation::TestEventPattern => &[PATTERN, Asked::Required(Member::Event, Syntax::Event)],
+        Operation::CreateArchive => &[
+            ARCHIVE,
+            Asked::Required(Member::EventSourceArn, Syntax::BusArn),
+            ARCHIVE_PATTERN,
+            DAYS,
+        ],
+        Operation::UpdateArchive => &[ARCHIVE, ARCHIVE_PATTERN, DAYS],
+        Operation::DeleteArchive | Operation::DescribeArchive => &[ARCHIVE],
+        Operation::ListArchives => &[
+            PREFIX,
+            Asked::Optional(Member::EventSourceArn, Syntax::AnyText),
+            Asked::Optional(Member::State, Syntax::ArchiveState),
+        ],
         Operation::CreateQueue | Operation::DeleteQueue => &[QUEUE],
         Operation::PeekMessages => &[QUEUE, Asked::Optional(Member::Limit, UP_TO_1000)],
         Operation::DeleteMessages => &[QUEUE, Asked::Required(Member::Through, NUMBER)],

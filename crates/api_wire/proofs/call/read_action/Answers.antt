@@ -53,6 +53,21 @@ returns-in-RemovePermission c = rw c.in-RemovePermission.is c.remove_permission.
 pub returns-in-TestEventPattern : goal.returns-in-TestEventPattern
 returns-in-TestEventPattern c = rw c.in-TestEventPattern.is (c.test_event_pattern.ensures c.args.caller.now c.args.reading)
 
+pub returns-in-CreateArchive : goal.returns-in-CreateArchive
+returns-in-CreateArchive c = rw c.in-CreateArchive.is c.create_archive.ensures
+
+pub returns-in-UpdateArchive : goal.returns-in-UpdateArchive
+returns-in-UpdateArchive c = rw c.in-UpdateArchive.is c.update_archive.ensures
+
+pub returns-in-DeleteArchive : goal.returns-in-DeleteArchive
+returns-in-DeleteArchive c = rw c.in-DeleteArchive.is c.delete_archive.ensures
+
+pub returns-in-DescribeArchive : goal.returns-in-DescribeArchive
+returns-in-DescribeArchive c = rw c.in-DescribeArchive.is c.describe_archive.ensures
+
+pub returns-in-ListArchives : goal.returns-in-ListArchives
+returns-in-ListArchives c = rw c.in-ListArchives.is c.list_archives.ensures
+
 pub returns-in-CreateQueue : goal.returns-in-CreateQueue
 returns-in-CreateQueue c = rw c.in-CreateQueue.is c.create_queue.ensures
 

@@ -7,7 +7,7 @@ use Rattle.bus_server.proofs.journal.on_disk.Goals as goal
 
 pub disk_in-requires : goal.disk_in-requires
 disk_in-requires g c =
-    some_disk g.D.Disk.calls g.D.Disk.faults g.H.Link.Link.exchanges g.H.Link.Link.faults _ c.args.now c.args.disk c.in-Ok.ensures.opened.journal c.seated-ended.result.disk _ _ c.seated-ended.result.status
+    some_disk g.D.Disk.calls g.D.Disk.faults g.H.Link.Link.exchanges g.H.Link.Link.faults _ c.args.now c.in-Ok.ensures.opened.journal c.seated-ended.result.disk _ _ c.seated-ended.result.status
     (c.seated-ended.ensures.sits _ (ap (λ (b : Book _). turns_of b.machine) c.book.ensures ∙ c.in-Ok.ensures.opened.turns))
 
 pub returns-in-Ok-clause-has : goal.returns-in-Ok-clause-has

@@ -12,7 +12,7 @@ pub disk_in-requires : goal.disk_in-requires
 disk_in-requires g c =
     serve_some g.J.Disk.calls g.J.Disk.faults (shown_by g.H.Door.Door.faults g.H.Door.Door.ahead g.H.Door.Door.given g.H.Door.Door.ended g.H.Door.Door.gave g.H.Door.Door.took_back g.H.Door.Door.closed)
     (IsVisit g.H.Door.In.Source.gave g.H.Door.Out.Sink.wrote g.H.Door.In.Source.faults g.H.Door.Out.Sink.faults)
-    (did_by g.H.Door.In.Source.gave g.H.Door.Out.Sink.wrote g.C.Lent.Clock.gave g.H.Link.Link.exchanges g.H.Link.Link.faults) c.args.disk c.in-Ok.ensures.opened.journal c.serve_book-ended.result.disk c.args.port c.args.workers c.args.connections _ _
+    (did_by g.H.Door.In.Source.gave g.H.Door.Out.Sink.wrote g.C.Lent.Clock.gave g.H.Link.Link.exchanges g.H.Link.Link.faults) c.in-Ok.ensures.opened.journal c.serve_book-ended.result.disk c.args.port c.args.workers c.args.connections _ _
     c.serve_book-ended.result.status (c.serve_book-ended.ensures.serve _ (ap (λ (b : Book _). turns_of b.machine) c.book.ensures ∙ c.in-Ok.ensures.opened.turns))
 
 pub returns-in-Ok-clause-has : goal.returns-in-Ok-clause-has

@@ -24,10 +24,10 @@ returns-else-number-eq-LAST_NUMBER-clause-ok n c =
     (no_error c.push_back.result (sym c.is_err.ensures.value ∙ c.if-is_err.false)) in
     let low : c.args.number + 1 ≤ 2 ^ 64 - 1 = grind (arith, c.if-number-eq-LAST_NUMBER.false, c.ranges.number.fits) in
     let next = follows c.args.number c.saturating_add.result c.saturating_add.ensures low in
-    step_ok c.admit_events.result c.args.number c.args.known (map entry_of entries) rest (accepted_of c.in-Some.event.now) c.args.parts.now.items
+    step_ok c.admit_events.result c.args.moment c.args.number c.args.set.now (map entry_of entries) rest (accepted_of c.in-Some.event.now) c.args.parts.now.items
     c.push_back.new.self.items c.admit_events.new.parts.items c.in_ok-part-in-Some.part is ok.0 ok.1 grown
-    (subst (λ m. OnOk c.admit_events.result (AreNextEvents m c.args.known rest
-    × ((x : List Part) × (c.admit_events.new.parts.items ≡ c.push_back.new.self.items ++ x) × ((set : RuleSet) → ArePartsOf set rest x))))
+    (subst (λ m. OnOk c.admit_events.result (AreNextEvents m c.args.set.now rest
+    × ((x : List Part) × (c.admit_events.new.parts.items ≡ c.push_back.new.self.items ++ x) × ((set : RuleSet) → ArePartsOf c.args.moment set rest x))))
     next c.admit_events.ensures.ok)
 
 pub returns-else-number-eq-LAST_NUMBER-clause-refused : goal.returns-else-number-eq-LAST_NUMBER-clause-refused
@@ -37,5 +37,5 @@ returns-else-number-eq-LAST_NUMBER-clause-refused n c = λ refused all.
     let is = first_entry entries c.first-item.result _ c.in-len1-up.len_at_least c.first-item.is ∙ ap (λ (e : Entry). e ∷ rest) c.in-Some.ensures in
     let low : c.args.number + 1 ≤ 2 ^ 64 - 1 = grind (arith, c.if-number-eq-LAST_NUMBER.false, c.ranges.number.fits) in
     let next = follows c.args.number c.saturating_add.result c.saturating_add.ensures low in
-    let both = subst (AreNextEvents c.args.number c.args.known) is all in
-    c.admit_events.ensures.refused refused (subst (λ m. AreNextEvents m c.args.known rest) (sym next) both.1)
+    let both = subst (AreNextEvents c.args.number c.args.set.now) is all in
+    c.admit_events.ensures.refused refused (subst (λ m. AreNextEvents m c.args.set.now rest) (sym next) both.1)

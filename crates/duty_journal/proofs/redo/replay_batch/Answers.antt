@@ -23,14 +23,14 @@ returns-in-Parts-clause-ready c =
       one_turn = subst (λ (es : List Entry). AreOfOneTurn (map entry_of es)) value ok.0;
       entries = subst (λ (es : List Entry). AreAdmitted b.moment (map entry_of es) t) value ok.1;
     } in
-    let parts = subst (λ (p : Plan). IsPlanOf t (map entry_of c.deref.result.now) p) c.in-Parts.is ok.2 in
-    let own = subst (λ (es : List Entry). ArePartsOf t.set (map entry_of es) c.in-Parts.parts.items) value parts in
+    let parts = subst (λ (p : Plan). IsPlanOf t b.moment (map entry_of c.deref.result.now) p) c.in-Parts.is ok.2 in
+    let own = subst (λ (es : List Entry). ArePartsOf b.moment t.set (map entry_of es) c.in-Parts.parts.items) value parts in
     let whole = ap batch_of c.new.ensures.batch in (
       (
         record {
           admitted = subst (IsAdmitted t) (sym whole) admitted;
-          prepared = subst (λ (ps : List Part). ArePartsOf t.set (batch_of c.new.result.batch).entries ps) (sym c.new.ensures.parts)
-              (subst (λ (o : Batch). ArePartsOf t.set (batch_of o).entries c.in-Parts.parts.items) (sym c.new.ensures.batch) own);
+          prepared = subst (λ (ps : List Part). ArePartsOf c.new.result.batch.moment t.set (batch_of c.new.result.batch).entries ps) (sym c.new.ensures.parts)
+              (subst (λ (o : Batch). ArePartsOf o.moment t.set (batch_of o).entries c.in-Parts.parts.items) (sym c.new.ensures.batch) own);
         },
         whole,
       ),

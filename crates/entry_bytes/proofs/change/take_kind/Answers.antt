@@ -8,5 +8,6 @@ use Rattle.entry_bytes.proofs.change.take_kind.Goals as goal
 
 pub returns-in_default : goal.returns-in_default
 returns-in_default c =
-    let e = kind_else c.args.kind c.args.bytes.now (grind (arith, nat_tests)) (grind (arith, nat_tests)) (grind (arith, nat_tests)) in
+    let e = kind_else c.args.kind c.args.bytes.now (grind (arith, nat_tests)) (grind (arith, nat_tests)) (grind (arith, nat_tests))
+    (grind (arith, nat_tests)) (grind (arith, nat_tests)) in
     rw e (plain_so _ IsSpelled c.take_plain.result (plain_at c.args.kind c.args.bytes.now) c.take_plain.ensures.gives c.take_plain.ensures.spelled)

@@ -10,8 +10,8 @@ pub returns-clause-made : goal.returns-clause-made
 returns-clause-made c =
     let t = c.args.tables.now in
     let through = c.args.through in
-    one_written c.writes.result t (MessagesDeleted c.in_ok-queue.queue through) Nothing c.writes.ensures.entry c.writes.ensures.part
-    (λ moment. subst (λ q. IsDeletionAdmitted t q through) (sym c.in_ok-queue.ensures) (record {
+    one_written c.writes.result t c.args.moment (MessagesDeleted c.in_ok-queue.queue through) Nothing c.writes.ensures.entry c.writes.ensures.part
+    (subst (λ q. IsDeletionAdmitted t q through) (sym c.in_ok-queue.ensures) (record {
       there = queue_there c.args.queue.now through t.duties.queues c.requires.some;
       bounded = c.requires.through;
       some = c.requires.some;

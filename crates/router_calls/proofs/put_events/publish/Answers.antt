@@ -1,8 +1,11 @@
-use Rattle.std.proofs.Common.{◌≡◌, ◌+◌, false, nat_lt, refl, ap, arith}
+use Rattle.std.proofs.Common.{◌≡◌, ◌+◌, false, map, nat_lt, refl, ap, subst, arith}
 use Rattle.std.proofs.lemmas.Bool.Decides.{nat_tests}
 use Rattle.std.proofs.lemmas.Result.{IfOk-weaker}
 use Rattle.json_text.specs.Limits.{most_together}
+use Rattle.rule_table.specs.RuleSet.{RuleSet}
+use Rattle.router_calls.specs.Accepted.{found_of}
 use Rattle.router_calls.specs.Decided.{decided_of}
+use Rattle.router_calls.specs.Steps.{Places}
 use Rattle.router_calls.specs.declared.put_events.PlacedEntries.{PlacedEntries}
 use Rattle.router_calls.proofs.TimeLemmas.{iso_of}
 use Rattle.router_calls.proofs.EntryLemmas.{are_ready, published_at, IsFresh}
@@ -20,7 +23,7 @@ reported-requires c =
       failed = 0;
     } in
     record {
-      ready = are_ready t c.requires.seen.0 c.requires.seen.1 time c.args.k (c.events.result + 1) c.args.entries.now c.args.size c.args.found.now.items none
+      ready = are_ready t c.requires.seen.0 c.requires.seen.1 time c.args.k (c.events.result + 1) c.args.moment c.args.entries.now c.args.size c.args.found.now.items none
           c.place_all.new.all seen.sound seen.version seen.known c.requires.bounded c.requires.accounts seen.found (ap (λ n. n + 1) c.events.ensures)
           (record {
             entries = c.in_ok-with_capacity.ensures.items;
@@ -28,7 +31,8 @@ reported-requires c =
             reports = c.in_ok-with_capacity-3.ensures.items;
             failed = refl;
           })
-          (c.in_ok-place_all.ensures time shown);
+          (subst (λ (s : RuleSet). Places c.args.k (c.events.result + 1) c.args.moment time c.args.entries.now (map (found_of s) c.args.found.now.items) none
+          c.place_all.new.all) c.set.ensures (c.in_ok-place_all.ensures time shown));
     }
 
 pub returns-clause-answer : goal.returns-clause-answer
@@ -48,6 +52,8 @@ returns-clause-answer c =
     } in
     let small : nat_lt most_together c.args.size ≡ false = grind (arith, nat_tests) in
     IfOk-weaker c.reported.result _ _
-    (λ d is time at. published_at t c.args.k (c.events.result + 1) c.args.size time c.args.entries.now _ none c.place_all.new.all (decided_of d) small
-    (ap (λ n. n + 1) c.events.ensures) is fresh (c.in_ok-place_all.ensures time at))
+    (λ d is time at. published_at t c.args.k (c.events.result + 1) c.args.size c.args.moment time c.args.entries.now _ none c.place_all.new.all (decided_of d) small
+    (ap (λ n. n + 1) c.events.ensures) is fresh
+    (subst (λ (s : RuleSet). Places c.args.k (c.events.result + 1) c.args.moment time c.args.entries.now (map (found_of s) c.args.found.now.items) none
+    c.place_all.new.all) c.set.ensures (c.in_ok-place_all.ensures time at)))
     c.reported.ensures.answer

@@ -23,5 +23,10 @@ returns-in-PutEvents-clause-answer c =
     let seen = c.args.seen.now in
     subst (λ (a : Action). IfOk c.put_events.result (λ d. IsDecidedAs t c.args.moment seen (action_of a) (decided_of d))) (sym c.in-PutEvents.is)
     (subst (λ (es : List Given). IfOk c.put_events.result
-    (λ d. IsPublication t seen.k c.args.moment es (entries_seen seen.result) c.in-PutEvents.size (decided_of d)))
+    (λ d. IsPublication t seen.k c.args.moment es (entries_seen t.set seen.result) c.in-PutEvents.size (decided_of d)))
     c.deref-in-PutEvents.ensures.value c.put_events.ensures.answer)
+
+pub returns-in-PutRule-clause-answer : goal.returns-in-PutRule-clause-answer
+returns-in-PutRule-clause-answer c =
+    subst (λ (a : Action). IfOk c.put_rule.result
+    (λ d. IsDecidedAs c.args.tables.now c.args.moment c.args.seen.now (action_of a) (decided_of d))) (sym c.in-PutRule.is) c.put_rule.ensures.answer

@@ -1,6 +1,6 @@
 use Rattle.std.proofs.Common.{◌≡◌, ◌⊎◌, inl, inr, ℕ, List, None, refl, sym, ap, ◌∙◌, subst}
 use Rattle.rule_table.specs.Control.{Control, bus_created, bus_deleted, policy_put, queue_created, queue_deleted, rule_deleted, rule_put, state_put, targets_put}
-use Rattle.rule_table.specs.Control.{targets_removed}
+use Rattle.rule_table.specs.Control.{targets_removed, archive_created, archive_updated, archive_deleted}
 use Rattle.rule_table.specs.RuleSet.{RuleSet, applied}
 use Rattle.rule_table.specs.View.{control_of}
 use Rattle.rule_table.specs.declared.control.Control.{Control as CodeControl}
@@ -113,7 +113,16 @@ with_set-requires c = λ bus name.
           | inl p ↦ ap (enabled_at bus name) (after given (policy_put p.0 p.1) old new c.requires (ap control_of p.2)) ∙ policy_same p.0 p.1 old bus name
           | inr more ↦ elim more [
             | inl q ↦ ap (enabled_at bus name) (after given (queue_created q.0) old new c.requires (ap control_of q.1))
-            | inr q ↦ ap (enabled_at bus name) (after given (queue_deleted q.0) old new c.requires (ap control_of q.1))
+            | inr more ↦ elim more [
+              | inl q ↦ ap (enabled_at bus name) (after given (queue_deleted q.0) old new c.requires (ap control_of q.1))
+              | inr more ↦ elim more [
+                | inl a ↦ ap (enabled_at bus name) (after given (archive_created a.0 a.1 a.2 a.3) old new c.requires (ap control_of a.4))
+                | inr more ↦ elim more [
+                  | inl a ↦ ap (enabled_at bus name) (after given (archive_updated a.0 a.1 a.2) old new c.requires (ap control_of a.3))
+                  | inr a ↦ ap (enabled_at bus name) (after given (archive_deleted a.0) old new c.requires (ap control_of a.1))
+                ]
+              ]
+            ]
           ]
         ]
       ]

@@ -1,4 +1,4 @@
-use Rattle.std.proofs.Common.{◌≡◌, ◌+◌, ◌++◌, length, Ok, Err, arith}
+use Rattle.std.proofs.Common.{◌≡◌, ◌+◌, [], ◌++◌, length, Ok, Err, sym, arith, append-nil}
 use Rattle.record_file.specs.Records.{first_gate}
 use Rattle.record_file.specs.State.{payloads_of}
 use Rattle.record_file.proofs.CrashLemmas.{append_rests}
@@ -11,6 +11,10 @@ returns-then-self-clause-any_moment g c = λ whole. absurd (cc (whole, c.if-self
 
 pub returns-then-self-clause-kept : goal.returns-then-self-clause-kept
 returns-then-self-clause-kept g c = λ whole. absurd (cc (whole, c.if-self.true))
+
+-- a file that is broken makes no call
+pub returns-then-self-clause-four_calls : goal.returns-then-self-clause-four_calls
+returns-then-self-clause-four_calls g c = ([], sym (append-nil (g.D.Disk.calls c.args.self.now.disk)))
 
 -- the file is at rest again, with all payloads
 pub returns-in-Ok-clause-sound : goal.returns-in-Ok-clause-sound

@@ -1,33 +1,39 @@
-use Rattle.std.proofs.Common.{subst, ◌∙◌, arith}
+use Rattle.std.proofs.Common.{subst, arith}
 use Rattle.router_core.specs.View.{entry_of}
 use Rattle.router_core.specs.Ready.{IsPartOf}
-use Rattle.router_core.proofs.TablesLemmas.{change_part, event_part, deletion_part, changed, published}
+use Rattle.router_core.proofs.TablesLemmas.{change_part, event_part, event_few, deletion_part}
 use Rattle.router_core.proofs.tables.Tables.join.Goals as goal
 
 pub configure-requires-clause-change : goal.configure-requires-clause-change
 configure-requires-clause-change c =
-    change_part c.args.moment (entry_of c.args.entry.now) c.args.self.now c.in-Configuration.set c.in-Configuration.new_queue _
-    (subst (IsPartOf c.args.self.now.set (entry_of c.args.entry.now)) c.in-Configuration.is c.requires.part) c.requires.admitted c.deleted_queue.ensures
+    change_part c.args.moment (entry_of c.args.entry.now) c.args.self.now.set c.in-Configuration.set c.in-Configuration.new_queue c.in-Configuration.new_archive
+    (subst (IsPartOf c.args.moment c.args.self.now.set (entry_of c.args.entry.now)) c.in-Configuration.is c.requires.part)
+
+pub configure-requires-clause-part : goal.configure-requires-clause-part
+configure-requires-clause-part c =
+    subst (IsPartOf c.args.moment c.args.self.now.set (entry_of c.args.entry.now)) c.in-Configuration.is c.requires.part
+
+pub publish-requires-clause-event : goal.publish-requires-clause-event
+publish-requires-clause-event c =
+    event_part c.args.moment (entry_of c.args.entry.now) c.args.self.now.set c.in-Event.duties c.in-Event.kept
+    (subst (IsPartOf c.args.moment c.args.self.now.set (entry_of c.args.entry.now)) c.in-Event.is c.requires.part)
+
+pub publish-requires-clause-part : goal.publish-requires-clause-part
+publish-requires-clause-part c = subst (IsPartOf c.args.moment c.args.self.now.set (entry_of c.args.entry.now)) c.in-Event.is c.requires.part
 
 pub publish-requires-clause-created : goal.publish-requires-clause-created
 publish-requires-clause-created c =
-    let few = event_part c.args.moment (entry_of c.args.entry.now) c.args.self.now c.in-Event.duties
-    (subst (IsPartOf c.args.self.now.set (entry_of c.args.entry.now)) c.in-Event.is c.requires.part) c.requires.admitted in
+    let few = event_few c.args.moment (entry_of c.args.entry.now) c.args.self.now c.in-Event.duties c.in-Event.kept
+    (subst (IsPartOf c.args.moment c.args.self.now.set (entry_of c.args.entry.now)) c.in-Event.is c.requires.part) c.requires.admitted in
     omega (arith, few, c.requires.created)
 
 pub delete_messages-requires-clause-deletion : goal.delete_messages-requires-clause-deletion
 delete_messages-requires-clause-deletion c =
-    deletion_part (entry_of c.args.entry.now) c.args.self.now.set
-    (subst (IsPartOf c.args.self.now.set (entry_of c.args.entry.now)) c.in-Nothing.is c.requires.part)
+    deletion_part c.args.moment (entry_of c.args.entry.now) c.args.self.now.set
+    (subst (IsPartOf c.args.moment c.args.self.now.set (entry_of c.args.entry.now)) c.in-Nothing.is c.requires.part)
 
-pub returns-in-Configuration-clause-joined : goal.returns-in-Configuration-clause-joined
-returns-in-Configuration-clause-joined c =
-    c.configure.ensures
-    ∙ changed c.args.moment c.in-Configuration.set c.in-Configuration.new_queue _ c.args.self.now (entry_of c.args.entry.now)
-    (subst (IsPartOf c.args.self.now.set (entry_of c.args.entry.now)) c.in-Configuration.is c.requires.part) c.deleted_queue.ensures
-
-pub returns-in-Event-clause-joined : goal.returns-in-Event-clause-joined
-returns-in-Event-clause-joined c =
-    c.publish.ensures.added
-    ∙ published c.args.moment c.in-Event.duties c.args.self.now (entry_of c.args.entry.now)
-    (subst (IsPartOf c.args.self.now.set (entry_of c.args.entry.now)) c.in-Event.is c.requires.part)
+pub returns-in-Event-clause-created : goal.returns-in-Event-clause-created
+returns-in-Event-clause-created c =
+    let few = event_few c.args.moment (entry_of c.args.entry.now) c.args.self.now c.in-Event.duties c.in-Event.kept
+    (subst (IsPartOf c.args.moment c.args.self.now.set (entry_of c.args.entry.now)) c.in-Event.is c.requires.part) c.requires.admitted in
+    omega (arith, few, c.publish.ensures.created)

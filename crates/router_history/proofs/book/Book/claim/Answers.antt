@@ -1,4 +1,4 @@
-use Rattle.std.proofs.Common.{sym, ◌∙◌}
+use Rattle.std.proofs.Common.{◌∙◌}
 use Rattle.router_history.proofs.HomeLemmas.{broken_at}
 use Rattle.router_history.proofs.ResultLemmas.{map_some}
 use Rattle.router_history.specs.Book.{turns_of}

@@ -1,4 +1,4 @@
-use Rattle.std.proofs.Common.{ℕ, Some, refl, sym, ap, ◌∙◌, subst}
+use Rattle.std.proofs.Common.{ℕ, Some, refl, sym, ap, ◌∙◌}
 use Rattle.router_core.specs.Batch.{Batch}
 use Rattle.router_core.specs.View.{batch_of}
 use Rattle.router_core.specs.Tables.{Tables, after_batch, moment_at}
