@@ -1,6 +1,7 @@
 //! A host over TCP, its links and its doors. The clients of a door are in the same thread.
 use crate::ledger::knock;
 use bus_host::{Door, Host, HostFault, Knock};
+use journal_disk::{FaultFlag, JournalDisk};
 use memory_disk::MemoryDisk;
 use router_disk::{Disk, Link, LinkFault, Sink, Source};
 use std::alloc::{AllocError, Global};
@@ -9,7 +10,7 @@ use std::net::{Ipv4Addr, SocketAddr, TcpListener, TcpStream};
 use std::test::Fail;
 use std::time::{Duration, Instant};
 use std::{io, thread};
-use tcp_host::{FaultFlag, JournalDisk, TcpDoor, TcpHost, TcpSink, TcpSource};
+use tcp_host::{TcpDoor, TcpHost, TcpSink, TcpSource};
 use test_rows::{all_met, two};
 
 // The address of a port of this machine. Port 0: one that nobody uses.

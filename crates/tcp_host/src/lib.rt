@@ -2,12 +2,6 @@
 #![tactic(auto)]
 
 mod alone;
-mod exchanged;
-mod fault_flag;
-mod heads;
-mod http_link;
-mod journal_disk;
-mod journal_file;
 mod listening;
 mod system_clocks;
 mod tcp_door;
@@ -16,9 +10,6 @@ mod tcp_sink;
 mod tcp_source;
 mod waiting;
 
-pub use fault_flag::FaultFlag;
-pub use http_link::HttpLink;
-pub use journal_disk::JournalDisk;
 pub use system_clocks::{LentClock, SystemClocks};
 pub use tcp_door::TcpDoor;
 pub use tcp_host::TcpHost;

@@ -4,10 +4,11 @@ ghost use Rattle.router_disk.specs.Faults.{CountsFaults};
 ghost use Rattle.bus_host.specs.HostFault.{host_outcome};
 ghost use Rattle.tcp_host.specs.Places.{counted, fresh, limit_for};
 
-use crate::journal_file::open_disk;
-use crate::{FaultFlag, HttpLink, JournalDisk, TcpDoor};
+use crate::TcpDoor;
 use bus_host::{Host, HostFault, raise};
+use http_link::HttpLink;
 use http_server::Log;
+use journal_disk::{FaultFlag, JournalDisk, open_disk};
 use router_disk::{FileDisk, Heard};
 use std::alloc::{AllocError, Global};
 use std::fs::File;

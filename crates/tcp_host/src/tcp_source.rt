@@ -2,9 +2,9 @@
 ghost use Rattle.std.specs.Prelude.{◌≡◌, []};
 ghost use Rattle.std.specs.Io.{ReadsAtMost};
 
-use crate::FaultFlag;
 use crate::alone::Alone;
 use bus_host::raise;
+use journal_disk::FaultFlag;
 use router_disk::{Failed, Pieces, Source};
 use std::sync::Arc;
 use std::time::{Clock, Duration, Instant};

@@ -29,7 +29,8 @@ impl FaultFlag {
         })
     }
 
-    pub(crate) fn is_set(&self) -> bool {
+    /// Whether a call has failed.
+    pub fn is_set(&self) -> bool {
         self.has_failed.load(Ordering::SeqCst)
     }
 

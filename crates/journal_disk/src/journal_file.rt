@@ -29,7 +29,7 @@ enum Reason {
 /// A disk over the regular file at `path`; if it is missing it is made. As long as the disk is there no other process opens it so. The file
 /// and its folder are synced, and what the system keeps of the file in memory is given up: after a sync that failed it may be what
 /// the disk does not have. If it is not opened a line on standard error has the reason.
-pub(crate) fn open_disk<R: Files<File = File> + Eprint + Copy>(
+pub fn open_disk<R: Files<File = File> + Eprint + Copy>(
     alloc: Global,
     system: R,
     path: &str,
