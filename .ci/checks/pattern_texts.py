@@ -173,13 +173,15 @@ def spoil(chance, pattern):
 
 
 def spell(chance, value, again=0.0):
-    """A text of the value, with white space and escapes. A key comes twice in so many of the objects, first with another value."""
+    """A text of the value, with white space and escapes. A key comes twice in so many of the objects, first with another value, at its own place:
+    it keeps the first one."""
     if isinstance(value, list):
         return a_space(chance) + "[" + ",".join(spell(chance, it, again) for it in value) + a_space(chance) + "]"
     if isinstance(value, dict):
         members = [spell_text(chance, key) + a_space(chance) + ":" + spell(chance, it, again) for key, it in value.items()]
         if value and chance.random() < again:
-            members.insert(0, spell_text(chance, chance.choice(list(value))) + ":0")
+            at = chance.randrange(len(value))
+            members.insert(at, spell_text(chance, list(value)[at]) + ":0")
         return a_space(chance) + "{" + ",".join(members) + "}" + a_space(chance)
     return a_space(chance) + (spell_text(chance, value) if isinstance(value, str) else spelled(value)) + a_space(chance)
 
