@@ -17,7 +17,8 @@ FIRST_GATE = len(HEADER)
 CLOSED, OPEN = b"\0", b"\1"  # gates
 ITEMS_LIMIT = 100  # targets or ids of one operation
 EVENTS_LIMIT = 10  # of one batch
-DELIVERIES_LIMIT = 1_500  # of one event
+DELIVERIES_LIMIT = 1_500  # of one event or of one step
+RUNNING_LIMIT = 10  # replays at once
 DETAIL_LEVELS = 99
 CONTROL = range(1, 14)  # kinds that change the configuration
 
@@ -192,6 +193,9 @@ OPERATION = OneOf(
         13: All(TEXT),  # archive deleted
         14: All(LONG, TEXT, LONG, LONG, TEXT, Many(TEXT), Many(DELIVERY)),  # event: number, bus, changes so far, time, text, archives
         15: All(LONG, OUTCOME),  # attempt: delivery
+        16: All(TEXT, TEXT, LONG, LONG, Maybe(Many(TEXT))),  # replay started: name, archive, first and last time, rules of its filter
+        17: All(TEXT, LONG, Many(DELIVERY)),  # replay stepped: name, number of the event
+        18: All(TEXT),  # replay cancelled
         19: All(TEXT, LONG),  # messages deleted: queue, through
     },
 )
@@ -251,20 +255,29 @@ class Delivery:
 class Archive:
     def __init__(self, bus, pattern, days):
         self.bus, self.has_pattern, self.days = bus, pattern is not None, days
-        self.accepted = []  # of each event that is kept, the moment at which it was accepted
+        self.events = []  # of each event that is kept, the moment at which it was accepted, its time and its number
 
     def drop(self, moment):
         """Drops what is not retained."""
-        self.accepted = [it for it in self.accepted if self.days == 0 or it + 86_400 * self.days > moment]
+        self.events = self.retained(moment)
+
+    def retained(self, moment):
+        return [it for it in self.events if self.days == 0 or it[0] + 86_400 * self.days > moment]
+
+
+class Replay:
+    def __init__(self, bus, left):
+        self.bus, self.left = bus, left  # the numbers of the events that are left; none once it has ended
 
 
 class Tables:
-    """The configuration, the deliveries, the queues and the archives after batches."""
+    """The configuration, the deliveries, the queues, the archives and the replays after batches."""
 
     def __init__(self):
         self.moment = self.records = self.operations = self.control = self.events = self.created = 0
         self.buses = {"default": {}}  # by name the rules, each with its targets, of which the two ARNs are kept
         self.archives = {}  # by name
+        self.replays = {}  # by name
         self.queues = {}  # by name how many messages there ever were, and the numbers of those that are there
         self.pending = {}  # by number
         self.ended = {"delivered": 0, "dead-lettered": 0, "dropped": 0}
@@ -311,6 +324,7 @@ class Tables:
 
     def delete_bus(self, name):
         self.must(name != "default", not self.rules(name), all(it.bus != name for it in self.archives.values()))
+        self.must(all(it.bus != name or not it.left for it in self.replays.values()))
         del self.buses[name]
 
     def put_rule(self, bus, name, _pattern, _is_enabled):
@@ -378,10 +392,14 @@ class Tables:
     def accept(self, number, bus, control, time, text, archives, deliveries):
         self.must(archives == sorted(set(archives)))
         for it in archives:
-            self.archive(it).accepted.append(self.moment)
+            self.archive(it).events.append((self.moment, time, number))
         self.must(number == self.events + 1, re.fullmatch(BUS, bus), control <= self.control, time <= MOMENT_LIMIT, is_event(text))
-        self.must(len(deliveries) <= DELIVERIES_LIMIT, all(len(row[3].encode()) <= LONGEST_TEXT for row in deliveries))
         self.events += 1
+        self.owe(deliveries)
+
+    def owe(self, deliveries):
+        """Makes deliveries of one event."""
+        self.must(len(deliveries) <= DELIVERIES_LIMIT, all(len(row[3].encode()) <= LONGEST_TEXT for row in deliveries))
         for row in deliveries:
             self.created += 1
             made = Delivery(row, self.moment)
@@ -416,6 +434,24 @@ class Tables:
             self.put(made.dead_letter)
         self.ended["dead-lettered" if is_kept else "dropped"] += 1
 
+    # -- Replays
+
+    def start_replay(self, name, archive, first, last, rules):
+        self.must(re.fullmatch(NAME, name), name not in self.replays, first <= last <= MOMENT_LIMIT)
+        self.must(all(re.fullmatch(NAME, it) for it in rules or []), sum(bool(it.left) for it in self.replays.values()) < RUNNING_LIMIT)
+        source = self.archive(archive)
+        chosen = sorted((time, number) for _, time, number in source.retained(self.moment) if first <= time <= last)
+        self.replays[name] = Replay(source.bus, [number for _, number in chosen])
+
+    def step_replay(self, name, number, deliveries):
+        self.must(name in self.replays and self.replays[name].left[:1] == [number])
+        self.replays[name].left.pop(0)
+        self.owe(deliveries)
+
+    def cancel_replay(self, name):
+        self.must(name in self.replays and self.replays[name].left)
+        self.replays[name].left = []
+
     def delete_messages(self, name, through):
         self.must(name in self.queues and through <= LAST_NUMBER)
         queue = self.queues[name]
@@ -429,7 +465,7 @@ class Tables:
         ended = " ".join(f"{fate} {count}" for fate, count in self.ended.items())
         return (
             f"records {self.records} entries {self.operations} control {self.control}\n"
-            f"events {self.events} archived {sum(len(it.accepted) for it in self.archives.values())} replays 0\n"
+            f"events {self.events} archived {sum(len(it.events) for it in self.archives.values())} replays {len(self.replays)}\n"
             f"duties {self.created} pending {len(self.pending)} {ended}\n"
             f"messages {sum(len(it) for _, it in self.queues.values())}\n"
         )
@@ -451,6 +487,9 @@ OPERATIONS = {
     13: Tables.delete_archive,
     14: Tables.accept,
     15: Tables.attempt,
+    16: Tables.start_replay,
+    17: Tables.step_replay,
+    18: Tables.cancel_replay,
     19: Tables.delete_messages,
 }
 

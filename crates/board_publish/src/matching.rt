@@ -21,8 +21,8 @@ use json_text::{Json, NoMemory};
 use name_rows::{Row, Rows};
 use numeric_keys::Marks;
 use router_core::{
-    Finder, Matched, Request, Seen, SeenTargets, archives_keeping, push_targets, see_event_with,
-    see_with,
+    Finder, Request, Seen, SeenArchives, SeenTargets, archives_keeping, push_targets,
+    see_event_with, see_with,
 };
 use rule_table::RuleSet;
 use std::alloc::Global;
@@ -67,7 +67,7 @@ impl Board {
     }
 
     /// The targets of the rules of the bus that match the event, in the order of the rules; none if there is no such bus.
-    fn targets(&self, alloc: Global, bus: &str, event: &Json) -> Result<SeenTargets, NoMemory>
+    fn matched(&self, alloc: Global, bus: &str, event: &Json) -> Result<SeenTargets, NoMemory>
         requires { IsValue (tree_of event.now) }
         ensures { IfOk result (λ targets. AreMatched (rules_of bus.now self.now) (tree_of event.now) targets.items) }
     {
@@ -86,10 +86,12 @@ impl Finder for Board {
         &self.set
     }
 
-    fn matched(&self, alloc: Global, bus: &str, event: &Json) -> Result<Matched, NoMemory> {
-        let targets = self.targets(alloc, bus, event)?;
-        let archives = archives_keeping(alloc, &self.set, bus, event)?;
-        Ok(Matched { targets, archives })
+    fn targets(&self, alloc: Global, bus: &str, event: &Json) -> Result<SeenTargets, NoMemory> {
+        self.matched(alloc, bus, event)
+    }
+
+    fn archives(&self, alloc: Global, bus: &str, event: &Json) -> Result<SeenArchives, NoMemory> {
+        archives_keeping(alloc, &self.set, bus, event)
     }
 }
 

@@ -5,17 +5,17 @@ use Rattle.std.proofs.lemmas.Bool.Decides.{nat_tests}
 use Rattle.delivery_duties.specs.declared.duty.NewDuty.{NewDuty}
 use Rattle.rule_table.specs.Control.{Control, bus_created, bus_deleted, rule_put, rule_deleted, state_put, targets_put, targets_removed, policy_put}
 use Rattle.rule_table.specs.Control.{queue_created, queue_deleted, archive_created, archive_updated, archive_deleted}
-use Rattle.router_core.specs.Batch.{Entry, control, accepted, attempt, messages_deleted}
+use Rattle.router_core.specs.Batch.{Entry, control, accepted, attempt, replay_started, replay_stepped, replay_cancelled, messages_deleted}
 use Rattle.entry_bytes.specs.Fields.{two_bytes}
 use Rattle.entry_bytes.specs.Change.{change_bytes, IsChange}
 use Rattle.entry_bytes.specs.Duty.{IsDuty, IsNamed}
 use Rattle.entry_bytes.specs.Reading.{IsBytes, Takes, IsReadAs, made_at, two_at, items_at}
 use Rattle.entry_bytes.specs.ChangeReading.{change_at}
-use Rattle.entry_bytes.proofs.Formats.{IsBytes-rest, bind_some, some_is, guard_some, cond_is, Takes-then, two_format, eight_format, text_format, pair_format, made_format, list_format, items_take, items_again, row_of, choice_takes, made_again}
+use Rattle.entry_bytes.proofs.Formats.{IsBytes-rest, bind_some, some_is, guard_some, cond_is, Takes-then, two_format, eight_format, text_format, pair_format, made_format, optional_format, list_format, items_take, items_again, row_of, choice_takes, made_again}
 use Rattle.entry_bytes.proofs.ChangeFormats.{change_format}
 use Rattle.entry_bytes.proofs.DutyFormats.{duty_format, outcome_format}
-use Rattle.duty_journal.specs.Batch.{accepted_bytes, operation_bytes, batch_bytes, IsAccepted, IsOperation}
-use Rattle.duty_journal.specs.Reading.{event_of, event_at, attempt_of, deleted_of, other_rows, other_at, operation_at, operations_at, made_batch, batch_at}
+use Rattle.duty_journal.specs.Batch.{accepted_bytes, started_bytes, stepped_bytes, operation_bytes, batch_bytes, IsAccepted, IsStarted, IsStepped, IsOperation}
+use Rattle.duty_journal.specs.Reading.{event_of, event_at, started_of, started_at, stepped_of, stepped_at, attempt_of, deleted_of, other_rows, other_at, operation_at, operations_at, made_batch, batch_at}
 
 -- a duty with bytes, whose rule is named by its ARN
 abbrev pub IsReadDuty : NewDuty → Type 0
@@ -25,6 +25,14 @@ event_format : IsReadAs accepted_bytes event_at (IsAccepted IsReadDuty)
 event_format = made_format event_of (λ e. (e.number, (e.bus, (e.k, (e.time, (e.text, (e.archives, e.duties))))))) (λ p. refl) (λ e. refl)
     (pair_format eight_format (pair_format text_format (pair_format eight_format (pair_format eight_format (pair_format text_format
     (pair_format (list_format text_format) (list_format duty_format)))))))
+
+started_format : IsReadAs started_bytes started_at IsStarted
+started_format = made_format started_of (λ s. (s.name, (s.archive, (s.range.start, (s.range.end, s.rules))))) (λ p. refl) (λ s. refl)
+    (pair_format text_format (pair_format text_format (pair_format eight_format (pair_format eight_format (optional_format (list_format text_format))))))
+
+stepped_format : IsReadAs stepped_bytes stepped_at (IsStepped IsReadDuty)
+stepped_format = made_format stepped_of (λ s. (s.name, (s.event, s.duties))) (λ p. refl) (λ s. refl)
+    (pair_format text_format (pair_format eight_format (list_format duty_format)))
 
 abbrev Spelled : List ℕ → Entry → List ℕ → Type 0
 Spelled bytes x rest = Takes bytes (operation_bytes x) rest × IsOperation IsReadDuty x
@@ -42,8 +50,17 @@ other_takes b bytes x rest fits e = choice_takes operation_bytes (IsOperation Is
   (
     row_of (pair_format eight_format outcome_format) operation_bytes (IsOperation IsReadDuty) 15 attempt_of (λ p. refl) (λ p f. f),
     (
-      row_of (pair_format text_format eight_format) operation_bytes (IsOperation IsReadDuty) 19 deleted_of (λ p. refl) (λ p f. f),
-      tt,
+      row_of started_format operation_bytes (IsOperation IsReadDuty) 16 replay_started (λ v. refl) (λ v f. f),
+      (
+        row_of stepped_format operation_bytes (IsOperation IsReadDuty) 17 replay_stepped (λ v. refl) (λ v f. f),
+        (
+          row_of text_format operation_bytes (IsOperation IsReadDuty) 18 replay_cancelled (λ v. refl) (λ v f. f),
+          (
+            row_of (pair_format text_format eight_format) operation_bytes (IsOperation IsReadDuty) 19 deleted_of (λ p. refl) (λ p f. f),
+            tt,
+          ),
+        ),
+      ),
     ),
   ),
 ) fits e
@@ -78,6 +95,9 @@ unfolding operation_at other_at
 operation_again (control c) rest fits = changed_again c rest fits
 operation_again (accepted e) rest fits = made_again event_format accepted e rest fits
 operation_again (attempt duty outcome) rest fits = made_again (pair_format eight_format outcome_format) attempt_of (duty, outcome) rest fits
+operation_again (replay_started s) rest fits = made_again started_format replay_started s rest fits
+operation_again (replay_stepped s) rest fits = made_again stepped_format replay_stepped s rest fits
+operation_again (replay_cancelled name) rest fits = made_again text_format replay_cancelled name rest fits
 operation_again (messages_deleted queue through) rest fits = made_again (pair_format text_format eight_format) deleted_of (queue, through) rest fits
 
 operation_format : IsReadAs operation_bytes operation_at (IsOperation IsReadDuty)

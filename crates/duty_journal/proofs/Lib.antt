@@ -10,6 +10,7 @@ pub mod RecoveryLemmas
 pub mod LawLemmas
 pub mod NamedLemmas
 pub mod AdmitLemmas
+pub mod ReplayLemmas
 pub mod OpeningLemmas
 pub mod CrossingLemmas
 pub mod HomeLemmas

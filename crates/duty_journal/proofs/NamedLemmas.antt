@@ -13,7 +13,7 @@ use Rattle.rule_table.specs.Control.{queue_created, queue_deleted, archive_creat
 use Rattle.rule_table.specs.RuleSet.{Bus, Rule, RuleSet, applied, changed, first_set, keeping_targets, new_rule, put_rule, put_targets, with_rule_changed, without_targets}
 use Rattle.rule_table.specs.WellFormed.{IsWellFormed}
 use Rattle.rule_table.proofs.RowLemmas.{All_without}
-use Rattle.router_core.specs.Batch.{Entry, control, accepted, attempt, messages_deleted, Batch}
+use Rattle.router_core.specs.Batch.{Entry, control, accepted, attempt, replay_started, replay_stepped, replay_cancelled, messages_deleted, Batch}
 use Rattle.router_core.specs.Tables.{Tables, after_entry, after_entries, after_batch}
 use Rattle.router_core.specs.Admitted.{AreAdmitted, IsAdmitted}
 use Rattle.duty_journal.specs.Named.{AreNamedByArns, IsNamedByArn}
@@ -117,6 +117,9 @@ named_entries moment (control c ∷ es) t admitted all =
     named_entries moment es (after_entry moment (control c) t) admitted.1 (named_kept c t.set admitted.0.0 all)
 named_entries moment (accepted e ∷ es) t admitted all = named_entries moment es (after_entry moment (accepted e) t) admitted.1 all
 named_entries moment (attempt duty outcome ∷ es) t admitted all = named_entries moment es (after_entry moment (attempt duty outcome) t) admitted.1 all
+named_entries moment (replay_started s ∷ es) t admitted all = named_entries moment es (after_entry moment (replay_started s) t) admitted.1 all
+named_entries moment (replay_stepped s ∷ es) t admitted all = named_entries moment es (after_entry moment (replay_stepped s) t) admitted.1 all
+named_entries moment (replay_cancelled name ∷ es) t admitted all = named_entries moment es (after_entry moment (replay_cancelled name) t) admitted.1 all
 named_entries moment (messages_deleted queue through ∷ es) t admitted all =
     named_entries moment es (after_entry moment (messages_deleted queue through) t) admitted.1 all
 

@@ -4,7 +4,7 @@ use Rattle.std.proofs.Common.{◌≡◌, ℕ, ◌^◌, ◌<◌, List, [], ◌∷
 use Rattle.std.specs.List.{AllByRecursion}
 use Rattle.std.proofs.lemmas.List.{append-nil}
 use Rattle.delivery_duties.specs.declared.duty.NewDuty.{NewDuty}
-use Rattle.router_core.specs.Batch.{Entry, control, accepted, attempt, messages_deleted, Batch}
+use Rattle.router_core.specs.Batch.{Entry, control, accepted, attempt, replay_started, replay_stepped, replay_cancelled, messages_deleted, Batch}
 use Rattle.entry_bytes.specs.Duty.{IsDuty, IsNamed}
 use Rattle.entry_bytes.specs.Reading.{IsBytes, HasNone}
 use Rattle.entry_bytes.proofs.Formats.{some_is}
@@ -34,6 +34,10 @@ join_operation (accepted e) fits named =
     let (number, (bus, (k, (time, (text, (archives, (few, duties))))))) = fits in
     (number, (bus, (k, (time, (text, (archives, (few, join_duties e.duties duties named)))))))
 join_operation (attempt duty outcome) fits named = fits
+join_operation (replay_started s) fits named = fits
+join_operation (replay_stepped s) fits named =
+    let (name, (event, (few, duties))) = fits in (name, (event, (few, join_duties s.duties duties named)))
+join_operation (replay_cancelled name) fits named = fits
 join_operation (messages_deleted queue through) fits named = fits
 
 fit_operation : (x : Entry) → IsOperation IsReadDuty x → IsOperation IsDuty x
@@ -42,12 +46,19 @@ fit_operation (accepted e) read =
     let (number, (bus, (k, (time, (text, (archives, (few, duties))))))) = read in
     (number, (bus, (k, (time, (text, (archives, (few, fit_duties e.duties duties)))))))
 fit_operation (attempt duty outcome) read = read
+fit_operation (replay_started s) read = read
+fit_operation (replay_stepped s) read =
+    let (name, (event, (few, duties))) = read in (name, (event, (few, fit_duties s.duties duties)))
+fit_operation (replay_cancelled name) read = read
 fit_operation (messages_deleted queue through) read = read
 
 named_operation : (x : Entry) → IsOperation IsReadDuty x → NamesRules x
 named_operation (control c) read = tt
 named_operation (accepted e) read = named_duties e.duties read.1.1.1.1.1.1.1
 named_operation (attempt duty outcome) read = tt
+named_operation (replay_started s) read = tt
+named_operation (replay_stepped s) read = named_duties s.duties read.1.1.1
+named_operation (replay_cancelled name) read = tt
 named_operation (messages_deleted queue through) read = tt
 
 join_all : (xs : List Entry) → AllByRecursion (IsOperation IsDuty) xs → AllByRecursion NamesRules xs → AllByRecursion (IsOperation IsReadDuty) xs
@@ -105,6 +116,9 @@ valid_all moment [] t a = tt
 valid_all moment (control c ∷ es) t a = (a.0.0.1, valid_all moment es (after_entry moment (control c) t) a.1)
 valid_all moment (accepted e ∷ es) t a = (tt, valid_all moment es (after_entry moment (accepted e) t) a.1)
 valid_all moment (attempt duty outcome ∷ es) t a = (tt, valid_all moment es (after_entry moment (attempt duty outcome) t) a.1)
+valid_all moment (replay_started s ∷ es) t a = (tt, valid_all moment es (after_entry moment (replay_started s) t) a.1)
+valid_all moment (replay_stepped s ∷ es) t a = (tt, valid_all moment es (after_entry moment (replay_stepped s) t) a.1)
+valid_all moment (replay_cancelled name ∷ es) t a = (tt, valid_all moment es (after_entry moment (replay_cancelled name) t) a.1)
 valid_all moment (messages_deleted queue through ∷ es) t a = (tt, valid_all moment es (after_entry moment (messages_deleted queue through) t) a.1)
 
 pub admitted_readable : (t : Tables) (b : Batch) → FitsBytes b → AllByRecursion NamesRules b.entries → IsAdmitted t b → IsReadable b

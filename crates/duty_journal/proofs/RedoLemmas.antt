@@ -17,7 +17,7 @@ use Rattle.delivery_duties.specs.declared.verdict.Verdict.{Verdict}
 use Rattle.delivery_duties.specs.declared.verdict.Verdict.TheVariants.{Deliver, Retry, Fail}
 use Rattle.delivery_duties.specs.Retry.{Attempt, begun, dead_letter_queue, retried, too_long, verdict_of}
 use Rattle.delivery_duties.specs.Duties.{Duties, added, added_one, attempt_of, failed, has_dead_letter_queue, pending_row, settled_by, settled_row}
-use Rattle.router_core.specs.Batch.{Accepted, Entry, control, accepted, attempt, messages_deleted, Batch}
+use Rattle.router_core.specs.Batch.{Accepted, Entry, control, accepted, attempt, replay_started, replay_stepped, replay_cancelled, messages_deleted, Batch}
 use Rattle.router_core.specs.Tables.{Tables, duties_after, after_entry, after_entries, after_batch}
 use Rattle.router_core.specs.Admitted.{AreAdmitted, AreOfOneTurn, IsAnEvent, IsEventAdmitted}
 use Rattle.router_core.specs.Ready.{IsPartOf, ArePartsOf}
@@ -66,6 +66,9 @@ events_up moment (accepted e ∷ es) t n =
     (All-cons IsAnEvent (accepted e) es tt rest.0, (event_up t e n.0, rest.1))
 events_up moment (control c ∷ es) t n = absurd n
 events_up moment (attempt duty outcome ∷ es) t n = absurd n
+events_up moment (replay_started s ∷ es) t n = absurd n
+events_up moment (replay_stepped s ∷ es) t n = absurd n
+events_up moment (replay_cancelled name ∷ es) t n = absurd n
 events_up moment (messages_deleted queue through ∷ es) t n = absurd n
 
 pub events_down : (moment : ℕ) (es : List Entry) (t : Tables) → All IsAnEvent es → AreAdmitted moment es t → AreNextEvents (t.events + 1) t.set es
@@ -74,6 +77,9 @@ events_down moment (accepted e ∷ es) t all a =
     (event_down t e a.0, events_down moment es (after_entry moment (accepted e) t) (All-tail IsAnEvent (accepted e) es all) a.1)
 events_down moment (control c ∷ es) t all a = absurd (All-head IsAnEvent (control c) es all)
 events_down moment (attempt duty outcome ∷ es) t all a = absurd (All-head IsAnEvent (attempt duty outcome) es all)
+events_down moment (replay_started s ∷ es) t all a = absurd (All-head IsAnEvent (replay_started s) es all)
+events_down moment (replay_stepped s ∷ es) t all a = absurd (All-head IsAnEvent (replay_stepped s) es all)
+events_down moment (replay_cancelled name ∷ es) t all a = absurd (All-head IsAnEvent (replay_cancelled name) es all)
 events_down moment (messages_deleted queue through ∷ es) t all a = absurd (All-head IsAnEvent (messages_deleted queue through) es all)
 
 pub events_from : (moment : ℕ) (es : List Entry) (t : Tables) (n : ℕ) (set : RuleSet) → n ≡ t.events → set ≡ t.set → AreNextEvents (n + 1) set es →
@@ -187,6 +193,9 @@ free_entry : (moment : ℕ) (e : Entry) (t : Tables) → HasNoClaim t → HasNoC
 free_entry moment (control c) t a = free_after c t.duties a
 free_entry moment (accepted e) t a = free_added e.duties moment t.duties a
 free_entry moment (attempt duty outcome) t a = free_settled_row (pending_row duty t.duties) moment outcome t.duties a
+free_entry moment (replay_started s) t a = a
+free_entry moment (replay_stepped s) t a = free_added s.duties moment t.duties a
+free_entry moment (replay_cancelled name) t a = a
 free_entry moment (messages_deleted queue through) t a = a
 
 free_entries : (moment : ℕ) (es : List Entry) (t : Tables) → HasNoClaim t → HasNoClaim (after_entries moment es t)

@@ -7,14 +7,17 @@ use Rattle.std.specs.Cmp.Lexicographic.{slice_cmp}
 use Rattle.std.specs.Ordering.{nat_cmp}
 use Rattle.name_rows.specs.Rows.{AreSorted, by_order}
 use Rattle.rule_table.specs.RuleSet.{RuleSet, has_archive}
+use Rattle.archive_keep.specs.declared.event_ref.KeptEvent.{KeptEvent}
+use Rattle.replay_run.specs.declared.row.ReplayRow.{ReplayRow}
+use Rattle.replay_run.specs.Replays.{running_named}
 use Rattle.delivery_duties.specs.declared.duty.DutyRow.{DutyRow}
 use Rattle.delivery_duties.specs.declared.duty.NewDuty.{NewDuty}
 use Rattle.delivery_duties.specs.Duties.{Duties, pending_row}
-use Rattle.router_core.specs.Batch.{Accepted, Entry, control, accepted, attempt, messages_deleted, Batch}
+use Rattle.router_core.specs.Batch.{Accepted, Entry, control, accepted, attempt, replay_started, replay_stepped, replay_cancelled, messages_deleted, Batch}
 use Rattle.router_core.specs.Tables.{Tables}
 use Rattle.router_core.specs.Admitted.{IsTextAdmitted, IsAdmitted}
 use Rattle.router_core.specs.Steps.{record_of}
-use Rattle.router_core.specs.Ready.{IsPartOf, ArePartsOf, IsReadyFor}
+use Rattle.router_core.specs.Ready.{IsPartOf, ArePartsOf, IsMadeOn, AreMadeOn, IsReadyFor}
 use Rattle.router_core.specs.View.{batch_of}
 use Rattle.duty_journal.specs.declared.redo.Redo.{Redo}
 use Rattle.duty_journal.specs.declared.redo.Redo.TheVariants.{Ready, Attempt}
@@ -77,14 +80,26 @@ AreNextEvents number set [] = Unit {0}
 AreNextEvents number set (accepted e ∷ es) = IsNextEvent number set e × AreNextEvents (number + 1) set es
 AreNextEvents number set (control c ∷ es) = ⊥
 AreNextEvents number set (attempt duty outcome ∷ es) = ⊥
+AreNextEvents number set (replay_started s ∷ es) = ⊥
+AreNextEvents number set (replay_stepped s ∷ es) = ⊥
+AreNextEvents number set (replay_cancelled name ∷ es) = ⊥
 AreNextEvents number set (messages_deleted queue through ∷ es) = ⊥
+
+-- for private clauses: the replay of the name is running, and its next event has this number
+pub record IsNextOfReplay (t : Tables) (name : List ℕ) (number : ℕ) : Type 0 where
+  pub row : ReplayRow
+  pub runs : running_named name t.replays ≡ Some row
+  pub event : KeptEvent
+  pub rest : List KeptEvent
+  pub next : row.replay.left ≡ event ∷ rest
+  pub number_is : number ≡ event.number
 
 -- for private clauses: what one operation of a batch of this moment needs to be applied
 abbrev pub IsNeedOf : Tables → ℕ → Entry → Need → Type 0
-IsNeedOf t moment e (needs.OfPart part) = IsPartOf moment t.set e part
+IsNeedOf t moment e (needs.OfPart part) = IsPartOf moment t.set e part × IsMadeOn moment t e part
 IsNeedOf t moment e (needs.OfAttempt duty outcome) = (e ≡ attempt duty outcome) × IsFreeDuty duty t.duties
 
 -- for private clauses: what the operations of a batch of this moment need to be applied
 abbrev pub IsPlanOf : Tables → ℕ → List Entry → Plan → Type 0
-IsPlanOf t moment es (Parts parts) = ArePartsOf moment t.set es parts.items
+IsPlanOf t moment es (Parts parts) = ArePartsOf moment t.set es parts.items × AreMadeOn moment t es parts.items
 IsPlanOf t moment es (OneAttempt duty outcome) = (es ≡ attempt duty outcome ∷ []) × IsFreeDuty duty t.duties

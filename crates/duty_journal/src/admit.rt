@@ -19,6 +19,7 @@ ghost use Rattle.duty_journal.specs.Batch.{HasValidTexts};
 ghost use Rattle.duty_journal.specs.Redo.{AreNextEvents, HasNoClaim, IsFreeDuty, IsNeedOf, IsNextEvent, are_in_order, is_before_first, is_short};
 
 use crate::fault::ReplayFault;
+use crate::replays::{admit_cancellation, admit_start, admit_step};
 use delivery_duties::{NewDuty, Outcome};
 use event_shape::{is_bus_name, queue_of};
 use event_text::is_numbered_text;
@@ -30,10 +31,10 @@ use std::cmp::Ordering;
 use std::collections::VecDeque;
 
 /// The last moment of a time, in seconds since 1970-01-01T00:00:00Z.
-const LAST_MOMENT: u64 = 250_000_000_000;
+pub(crate) const LAST_MOMENT: u64 = 250_000_000_000;
 
-/// The greatest number of duties of an event.
-const MOST_DUTIES: usize = 1500;
+/// The greatest number of duties of an event or of a step.
+pub(crate) const MOST_DUTIES: usize = 1500;
 
 /// The greatest number of bytes of a duty's text.
 const MOST_TEXT: usize = 1_048_576;
@@ -93,6 +94,18 @@ pub(crate) fn admit_one(
             Ok(()) => Ok(Need::OfAttempt(*duty, *outcome)),
             Err(fault) => Err(fault),
         },
+        Entry::ReplayStarted(start) => match admit_start(alloc, tables, moment, start) {
+            Ok(part) => Ok(Need::OfPart(part)),
+            Err(fault) => Err(fault),
+        },
+        Entry::ReplayStepped(step) => match admit_step(alloc, tables, step) {
+            Ok(part) => Ok(Need::OfPart(part)),
+            Err(fault) => Err(fault),
+        },
+        Entry::ReplayCancelled { name } => match admit_cancellation(tables, name) {
+            Ok(()) => Ok(Need::OfPart(Part::Cancellation)),
+            Err(fault) => Err(fault),
+        },
         Entry::MessagesDeleted { queue, through } => match admit_deletion(tables, queue, *through) {
             Ok(()) => Ok(Need::OfPart(Part::Nothing)),
             Err(fault) => Err(fault),
@@ -129,14 +142,15 @@ fn admit_change(
     }
 }
 
-/// Whether no pending duty and no message names a queue that the change deletes.
+/// Whether no pending duty and no message names a queue that the change deletes, and no running replay sends its events to a bus that it
+/// deletes.
 fn is_unnamed(tables: &Tables, control: &Control) -> bool
-    ensures { IsTrue result ↔ IsUnnamed (control_of control.now) tables.now.duties }
+    ensures { IsTrue result ↔ IsUnnamed (control_of control.now) tables.now }
 {
     match control {
         Control::QueueDeleted { name } => !tables.duties().names(name.as_str()),
+        Control::BusDeleted { name } => !tables.replays().goes_to(name.as_str()),
         Control::BusCreated { .. }
-        | Control::BusDeleted { .. }
         | Control::RulePut { .. }
         | Control::RuleDeleted { .. }
         | Control::StatePut { .. }
@@ -218,7 +232,7 @@ fn admit_event(
 }
 
 /// Whether no text is too long.
-fn are_short(duties: &[NewDuty]) -> bool
+pub(crate) fn are_short(duties: &[NewDuty]) -> bool
     ensures { result ≡ list_all is_short duties.now }
 {
     match duties {
@@ -368,6 +382,11 @@ fn event_in(entry: &Entry) -> Option<&AcceptedEvent>
 {
     match entry {
         Entry::Accepted(event) => Some(event),
-        Entry::Control(_) | Entry::Attempt { .. } | Entry::MessagesDeleted { .. } => None,
+        Entry::Control(_)
+        | Entry::Attempt { .. }
+        | Entry::ReplayStarted(_)
+        | Entry::ReplayStepped(_)
+        | Entry::ReplayCancelled { .. }
+        | Entry::MessagesDeleted { .. } => None,
     }
 }

@@ -12,6 +12,7 @@ mod put;
 mod record;
 mod recover;
 mod redo;
+mod replays;
 mod take;
 
 pub use fault::{DiskFault, JournalFault, ReplayFault};

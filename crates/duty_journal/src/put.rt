@@ -3,14 +3,17 @@ ghost use Rattle.std.specs.Prelude.{◌≡◌, ◌<◌, ◌≤◌, ◌^◌, ◌+
 ghost use Rattle.std.specs.List.{flat_map, AllByRecursion};
 ghost use Rattle.entry_bytes.specs.Fields.{two_bytes, eight_bytes, text_bytes, IsText};
 ghost use Rattle.entry_bytes.specs.Duty.{IsDuty};
-ghost use Rattle.router_core.specs.View.{accepted_of, entry_of, batch_of};
-ghost use Rattle.duty_journal.specs.Batch.{accepted_bytes, operation_bytes, batch_bytes, IsAccepted, IsOperation, FitsBytes};
+ghost use Rattle.std.specs.Option.{option_map};
+ghost use Rattle.router_core.specs.View.{accepted_of, stepped_of, entry_of, batch_of};
+ghost use Rattle.duty_journal.specs.Batch.{accepted_bytes, started_bytes, stepped_bytes, operation_bytes, batch_bytes, IsAccepted, IsStarted, IsStepped, IsOperation, FitsBytes};
 
 use entry_bytes::{
-    put_change, put_duties, put_outcome, put_text, put_texts, put_u8, put_u16, put_u64,
+    put_change, put_duties, put_optional_texts, put_outcome, put_text, put_texts, put_u8, put_u16,
+    put_u64,
 };
-use json_text::{Bytes, NoMemory};
-use router_core::{AcceptedEvent, Batch, Entry};
+use json_text::{Bytes, NoMemory, Text};
+use replay_run::RuleNames;
+use router_core::{AcceptedEvent, Batch, Entry, StartedReplay, SteppedReplay};
 
 /// Adds the bytes of the batch. Refused as out of memory if it has no operation, or 65,536 or more, or a text or list of 2^32 or more.
 /// After an `Err` the bytes are as before.
@@ -80,6 +83,18 @@ fn put_entry(entry: &Entry, out: &mut Bytes) -> Result<(), NoMemory>
             put_u64(*duty, out)?;
             put_outcome(*outcome, out)
         }
+        Entry::ReplayStarted(start) => {
+            put_u8(16, out)?;
+            put_started(start, out)
+        }
+        Entry::ReplayStepped(step) => {
+            put_u8(17, out)?;
+            put_stepped(step, out)
+        }
+        Entry::ReplayCancelled { name } => {
+            put_u8(18, out)?;
+            put_text(name.as_str(), out)
+        }
         Entry::MessagesDeleted { queue, through } => {
             put_u8(19, out)?;
             put_text(queue.as_str(), out)?;
@@ -110,4 +125,36 @@ fn put_place(event: &AcceptedEvent, out: &mut Bytes) -> Result<(), NoMemory>
     put_text(event.bus.as_str(), out)?;
     put_u64(event.k, out)?;
     put_u64(event.time, out)
+}
+
+fn put_started(start: &StartedReplay, out: &mut Bytes) -> Result<(), NoMemory>
+    ensures bytes { OnOk result (out.new ≡ out.old ++ started_bytes start.now) }
+    ensures fits { OnOk result (IsStarted start.now) }
+    ensures err { OnErr result (take (length out.old) out.new ≡ out.old) }
+{
+    put_text(start.name.as_str(), out)?;
+    put_text(start.archive.as_str(), out)?;
+    put_u64(start.range.start, out)?;
+    put_u64(start.range.end, out)?;
+    put_optional_texts(names_of(&start.rules), out)
+}
+
+/// The names of the rules of the filter, if there is one.
+fn names_of(rules: &Option<RuleNames>) -> Option<&[Text]>
+    ensures { option_map (λ t. t.now) result ≡ rules.now }
+{
+    match rules {
+        Some(rules) => Some(rules.names()),
+        None => None,
+    }
+}
+
+fn put_stepped(step: &SteppedReplay, out: &mut Bytes) -> Result<(), NoMemory>
+    ensures bytes { OnOk result (out.new ≡ out.old ++ stepped_bytes (stepped_of step.now)) }
+    ensures fits { OnOk result (IsStepped IsDuty (stepped_of step.now)) }
+    ensures err { OnErr result (take (length out.old) out.new ≡ out.old) }
+{
+    put_text(step.name.as_str(), out)?;
+    put_u64(step.event, out)?;
+    put_duties(&step.duties, out)
 }

@@ -46,7 +46,8 @@ list_bytes bytes_of xs = four_bytes (length xs) ++ flat_map bytes_of xs
 abbrev pub IsText : List ℕ → Type 0
 IsText t = (length t < 2 ^ 32) × (is_utf8 t ≡ true)
 
--- what there is has bytes
+-- What there is has bytes.
+-- Shown by: proofs alone.
 abbrev pub IsOptional : {A : Type 0} → (A → Type 0) → Option A → Type 0
 IsOptional fits None = Unit {0}
 IsOptional fits (Some x) = fits x

@@ -82,7 +82,8 @@ flag_at (zero ∷ rest) = Some (false, rest)
 flag_at (suc zero ∷ rest) = Some (true, rest)
 flag_at (suc (suc b) ∷ rest) = None
 
--- nothing after a 0, a value after a 1
+-- What may be missing: nothing after a 0, a value after a 1.
+-- Shown by: table_tests test_duty_journal.rt: each_batch_has_its_bytes.
 unfoldable pub optional_at : {A : Type 0} → (List ℕ → Option (A × List ℕ)) → List ℕ → Option (Option A × List ℕ)
 optional_at item [] = None
 optional_at item (zero ∷ rest) = Some (None, rest)

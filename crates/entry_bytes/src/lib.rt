@@ -19,6 +19,6 @@ pub use laws::{
     a_change_is_read_as_it_is_spelled, a_duty_is_read_as_it_is_spelled,
     an_outcome_is_read_as_it_is_spelled,
 };
-pub use lists::{put_texts, take_texts};
+pub use lists::{put_optional_texts, put_texts, take_optional_texts, take_texts};
 pub use numbers::{put_u8, put_u16, put_u64, take_u8, take_u16, take_u64};
 pub use texts::{put_text, take_str, take_text};

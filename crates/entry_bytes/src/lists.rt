@@ -1,15 +1,16 @@
 //! Lists as bytes: their length, and their items.
 ghost use Rattle.std.specs.Prelude.{◌≡◌, ◌<◌, ◌^◌, ◌++◌, ℕ, List, length, take, OnOk, OnErr, Option};
+ghost use Rattle.std.specs.Option.{option_map};
 ghost use Rattle.std.specs.List.{flat_map, AllByRecursion};
-ghost use Rattle.entry_bytes.specs.Fields.{text_bytes, list_bytes, IsText, IsList};
+ghost use Rattle.entry_bytes.specs.Fields.{text_bytes, list_bytes, optional_bytes, IsText, IsList, IsOptional};
 ghost use Rattle.entry_bytes.specs.Change.{path_bytes, target_bytes, IsPath, IsTarget};
 ghost use Rattle.entry_bytes.specs.Duty.{duty_bytes, IsDuty};
-ghost use Rattle.entry_bytes.specs.Reading.{Gives, text_at, items_at, list_at};
+ghost use Rattle.entry_bytes.specs.Reading.{Gives, text_at, items_at, list_at, optional_at};
 ghost use Rattle.entry_bytes.specs.ChangeReading.{path_at};
 
 use crate::duty::put_duty;
 use crate::fault::ReadFault;
-use crate::numbers::{put_len, take_u32};
+use crate::numbers::{put_len, put_u8, take_u32};
 use crate::target::put_target;
 use crate::texts::{put_text, take_text};
 use delivery_duties::NewDuty;
@@ -131,6 +132,40 @@ pub fn take_texts(alloc: Global, bytes: &[u8]) -> Result<(Vec<Text>, &[u8]), Rea
     ensures { Gives (λ x. (x.0.items, x.1.now)) result (list_at text_at bytes.now) }
 {
     take_list(alloc, bytes)
+}
+
+/// Writes the texts as a list, or that there is none.
+pub fn put_optional_texts(texts: Option<&[Text]>, out: &mut Bytes) -> Result<(), NoMemory>
+    ensures bytes { OnOk result (out.new ≡ out.old ++ optional_bytes (list_bytes text_bytes) (option_map (λ t. t.now) texts.entry)) }
+    ensures fits { OnOk result (IsOptional (IsList IsText) (option_map (λ t. t.now) texts.entry)) }
+    ensures err { OnErr result (take (length out.old) out.new ≡ out.old) }
+{
+    match texts {
+        Some(texts) => {
+            put_u8(1, out)?;
+            put_texts(texts, out)
+        }
+        None => put_u8(0, out),
+    }
+}
+
+/// The list of texts at the front, if there is one, and the bytes after it.
+#[tactic(auto, unfolding(crate::specs::Reading::optional_at))]
+pub fn take_optional_texts(
+    alloc: Global,
+    bytes: &[u8],
+) -> Result<(Option<Vec<Text>>, &[u8]), ReadFault>
+    ensures { Gives (λ x. (option_map (λ t. t.items) x.0, x.1.now)) result (optional_at (list_at text_at) bytes.now) }
+{
+    match bytes {
+        [] => Err(ReadFault::NotSpelled),
+        [0, rest @ ..] => Ok((None, rest)),
+        [1, rest @ ..] => {
+            let (texts, rest) = take_texts(alloc, rest)?;
+            Ok((Some(texts), rest))
+        }
+        [_, ..] => Err(ReadFault::NotSpelled),
+    }
 }
 
 pub(crate) fn take_list<T: Take + Drop>(

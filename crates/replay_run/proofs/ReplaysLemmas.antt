@@ -1,7 +1,8 @@
 -- All replays: the entry of a name (`entry_named`), that of the first one that runs (`first_entry`), what the names show (`number_named`), and
 -- soundness after a start (`sound_started`) and after a change in place (`sound_changed`), each with the rows that it leaves.
-use Rattle.std.proofs.Common.{◌≡◌, ◌≢◌, ◌==◌, ℕ, ◌+◌, ◌<◌, ◌≤◌, Bor, MatchOption, Bool, true, false, not, cond, Some, None, Option, List, [], ◌∷◌, ◌++◌, length, map, refl, sym, ap, ◌∙◌, subst, arith, length-append, append-nil}
-use Rattle.std.specs.Prelude.{All, filter}
+use Rattle.std.proofs.Common.{◌≡◌, ◌≢◌, ◌==◌, ℕ, ◌+◌, ◌<◌, ◌≤◌, Bor, MatchOption, Bool, true, false, not, cond, Some, None, Option, List, [], ◌∷◌, ◌++◌, length, map, refl, sym, ap, ◌∙◌, subst, arith, append_assoc, length-append, append-nil}
+use Rattle.std.specs.Prelude.{All, filter, IfSome, ◌||◌}
+use Rattle.std.specs.List.{list_any}
 use Rattle.std.specs.Str.{bytes_eq}
 use Rattle.std.specs.Cmp.Lexicographic.{slice_cmp}
 use Rattle.std.specs.Ordering.{nat_cmp}
@@ -23,7 +24,7 @@ use Rattle.replay_run.specs.Selection.{selection_of}
 use Rattle.replay_run.specs.declared.state.ReplayState.{ReplayState}
 use Rattle.replay_run.specs.declared.state.ReplayState.TheVariants.{Running, Completed, Cancelled}
 use Rattle.replay_run.specs.Replay.{new_replay, replay_state, advanced, after_cancellation}
-use Rattle.replay_run.specs.Replays.{name_of, is_running_state, is_running, running, found, if_running, running_named, next_number, changed_at, first_row, stepped_at, cancelled_at, changed_named, stepped_in, cancelled_in, numbered, numbered_if, number_name, with_name, names_after, names_of, row_of, rows_in, AreCounted, HaveOwnNames, number_of, running_numbers, AreSound, numbers_after, numbers_with}
+use Rattle.replay_run.specs.Replays.{name_of, is_running_state, is_running, running, found, if_running, running_named, is_sent_to, is_one_sent_to, next_number, changed_at, first_row, stepped_at, cancelled_at, changed_named, stepped_in, cancelled_in, numbered, numbered_if, number_name, with_name, names_after, names_of, row_of, rows_in, AreCounted, HaveOwnNames, number_of, running_numbers, AreSound, numbers_after, numbers_with}
 
 -- counted entries
 counted_from : (n : ℕ) (es : List (ℕ × ReplayRow)) → AreCounted n es → AllKeys (λ key. n ≤ key) es
@@ -253,6 +254,44 @@ first_entry es n later c h =
     let value : value_at row.number es ≡ Some row = ap (value_at row.number) parts ∙ value_here row.number front (row.number, row) back sorted refl in
     (row, rest, is, subst (λ k. value_at k es ≡ Some row) number value)
 
+own_named : (front : List ReplayRow) (row : ReplayRow) (back : List ReplayRow) → HaveOwnNames (front ++ row ∷ back)
+    → named name_of (name_of row) (front ++ row ∷ back) ≡ Some row
+own_named [] row back own =
+    let same : bytes_eq (name_of row) (name_of row) ≡ true = (bytes_eq-Decides (name_of row) (name_of row)).1 refl in
+    rw same refl
+own_named (r ∷ front) row back (first, rest) =
+    let later = All_back (Other name_of (name_of r)) front (row ∷ back) first in
+    let other = other_back (name_of row) (name_of r) (All-head (Other name_of (name_of r)) row back later) in
+    rw other (own_named front row back rest)
+
+-- the first row that runs is that of its name
+pub first_named : (es : List (ℕ × ReplayRow)) (row : ReplayRow) (rest : List ReplayRow) → AreCounted 1 es → HaveOwnNames (rows_in es)
+    → running (rows_in es) ≡ row ∷ rest → found (name_of row) (rows_in es) ≡ Some row
+first_named es row rest counted own runs =
+    let (front, back, parts) = first_in 1 es row rest counted runs in
+    let rows_so : rows_in es ≡ rows_in front ++ row ∷ rows_in back = ap rows_in parts ∙ map-append row_of front ((row.number, row) ∷ back) in
+    ap (named name_of (name_of row)) rows_so ∙ own_named (rows_in front) row (rows_in back) (subst HaveOwnNames rows_so own)
+
+-- of the rows with the numbers that run one sends its events to the bus if one of those that run does
+sent_in : (bus : List ℕ) (es : List (ℕ × ReplayRow)) (n : ℕ) (front back : List (ℕ × ReplayRow)) → es ≡ front ++ back → AreSorted es → AreCounted n back
+    → is_one_sent_to bus es (running_numbers (rows_in back)) ≡ is_sent_to bus (rows_in back)
+sent_in bus es n front [] parts sorted counted = refl
+sent_in bus es n front (e ∷ back) parts sorted (key, number, rest) =
+    let more = sent_in bus es (n + 1) (front ++ e ∷ []) back (parts ∙ sym (append_assoc front (e ∷ []) back)) sorted rest in
+    let placed_so : es ≡ front ++ (e.1.number, e.1) ∷ back = parts ∙ ap (λ x. front ++ x ∷ back) (entry_is n e key number) in
+    let value : value_at e.1.number es ≡ Some e.1 =
+    ap (value_at e.1.number) placed_so ∙ value_here e.1.number front (e.1.number, e.1) back (subst AreSorted placed_so sorted) refl in
+    elim (is_running e.1) as (λ b. is_one_sent_to bus es (map number_of (cond b (e.1 ∷ running (rows_in back)) (running (rows_in back))))
+    ≡ list_any (λ (row : ReplayRow). bytes_eq row.settings.bus bus) (cond b (e.1 ∷ running (rows_in back)) (running (rows_in back)))) [
+      | true ↦ rw value (ap (λ b. bytes_eq e.1.settings.bus bus || b) more)
+      | false ↦ more
+    ]
+
+pub sent_so : (bus : List ℕ) (es : List (ℕ × ReplayRow)) (numbers : List ℕ) (names : List NumberedName) → AreSound es numbers names
+    → is_one_sent_to bus es numbers ≡ is_sent_to bus (rows_in es)
+sent_so bus es numbers names sound =
+    ap (is_one_sent_to bus es) sound.runs ∙ sent_in bus es 1 [] es refl (counted_sorted 1 es sound.counted) sound.counted
+
 nothing : (all : List ReplayRow) → [] ≡ map number_of all → all ≡ []
 nothing [] h = refl
 nothing (row ∷ all) h = absurd (cc)
@@ -458,6 +497,14 @@ pub not_cancelled : (name : List ℕ) (moment : ℕ) (all : List ReplayRow) → 
 not_cancelled name moment all none =
     sym (unchanged name (cancelled_at moment) all (λ row is.
     ap (λ b. cond b (changed_at moment (record row { replay = after_cancellation row.replay })) row) (ended_row (found name all) row none is)))
+
+pub next_named : (r : Option (Bor ReplayRow)) (o : Option ReplayRow) (all rest : List ReplayRow) (row : ReplayRow)
+    → MatchOption r (o ≡ None) (λ v. o ≡ Some v.now) → o ≡ Some row → found (name_of row) all ≡ Some row
+    → IfSome r (λ v. found (name_of v.now) all ≡ Some v.now)
+next_named None o all rest row m is named_so = tt
+next_named (Some v) o all rest row m is named_so =
+    let same : row ≡ v.now = (let both : Some row ≡ Some v.now = sym is ∙ m in cc) in
+    subst (λ (x : ReplayRow). found (name_of x) all ≡ Some x) same named_so
 
 -- a change leaves number and settings
 changed_kept : (moment : ℕ) (row : ReplayRow) → ((changed_at moment row).number ≡ row.number) × ((changed_at moment row).settings ≡ row.settings)

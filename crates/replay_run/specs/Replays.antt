@@ -1,7 +1,9 @@
 -- All replays, as one list in the order of their starts. This project's own rules.
 use Rattle.std.specs.Prelude.{◌≡◌, ◌==◌, ℕ, ◌+◌, Bool, true, false, not, if◌then◌else◌, List, [], ◌∷◌, ◌++◌, length, map, filter, Option, Some, None, All}
+use Rattle.std.specs.List.{list_any}
 use Rattle.std.specs.Str.{bytes_eq}
 use Rattle.name_rows.specs.Rows as rows
+use Rattle.key_tree.specs.Entries.{value_at}
 use Rattle.archive_keep.specs.Archive.{Archive}
 use Rattle.replay_run.specs.declared.settings.ReplaySettings.{ReplaySettings}
 use Rattle.replay_run.specs.declared.row.ReplayRow.{ReplayRow}
@@ -35,6 +37,11 @@ is_running row = is_running_state (replay_state row.replay)
 -- Shown by: the_last_started_is_stepped_first.edit.
 abbrev pub running : List ReplayRow → List ReplayRow
 running all = filter is_running all
+
+-- A running replay sends its events to this bus.
+-- Shown by: proofs alone.
+abbrev pub is_sent_to : List ℕ → List ReplayRow → Bool
+is_sent_to bus all = list_any (λ row. bytes_eq row.settings.bus bus) (running all)
 
 -- The replay of a name. No two replays have one name.
 -- Shown by: proofs alone.
@@ -145,6 +152,15 @@ number_of row = row.number
 -- the numbers of the rows that are running
 abbrev pub running_numbers : List ReplayRow → List ℕ
 running_numbers all = map number_of (running all)
+
+-- the row, if there is one, sends its events to this bus
+abbrev pub is_row_sent_to : List ℕ → Option ReplayRow → Bool
+is_row_sent_to bus None = false
+is_row_sent_to bus (Some row) = bytes_eq row.settings.bus bus
+
+-- one of the rows with these numbers sends its events to this bus
+abbrev pub is_one_sent_to : List ℕ → List (ℕ × ReplayRow) → List ℕ → Bool
+is_one_sent_to bus entries numbers = list_any (λ n. is_row_sent_to bus (value_at n entries)) numbers
 
 -- these are all replays, the numbers of those that are running, and all names
 pub record AreSound (entries : List (ℕ × ReplayRow)) (numbers : List ℕ) (names : List NumberedName) : Type 0 where

@@ -1,5 +1,6 @@
 //! All replays.
-ghost use Rattle.std.specs.Prelude.{◌≡◌, ℕ, ◌+◌, ◌^◌, ◌<◌, ◌≤◌, ◌∷◌, ◌++◌, [], List, Some, None, true, IfOk, MatchOption, length, vec_capacity};
+ghost use Rattle.std.specs.Prelude.{◌≡◌, ℕ, ◌+◌, ◌^◌, ◌<◌, ◌≤◌, ◌∷◌, ◌++◌, [], List, Some, None, true, IfOk, IfSome, MatchOption, length, vec_capacity};
+ghost use Rattle.std.specs.Option.{option_copied};
 ghost use Rattle.name_rows.specs.Rows.{AreSorted, named};
 ghost use Rattle.archive_keep.specs.declared.event_ref.KeptEvent.{KeptEvent};
 ghost use Rattle.replay_run.specs.declared.row.ReplayRow.{ReplayRow};
@@ -83,14 +84,22 @@ impl Replays {
 
     /// The replay that is stepped next: of those that are running the one that started first.
     pub fn next(&self) -> Option<&ReplayRow>
-        ensures { MatchOption result
+        ensures first { MatchOption result
             (spec.running self.now ≡ [])
             (λ row. (rest : List ReplayRow) × (spec.running self.now ≡ row.now ∷ rest)) }
+        ensures named { IfSome result (λ row. spec.found (spec.name_of row.now) self.now ≡ Some row.now) }
     {
         match self.running.first() {
             Some(number) => self.all.get(u128::from(*number)),
             None => None,
         }
+    }
+
+    /// Whether a running replay sends its events to this bus.
+    pub fn goes_to(&self, bus: &str) -> bool
+        ensures { result ≡ spec.is_sent_to bus.now self.now }
+    {
+        is_one_sent_to(&self.all, &self.running, bus)
     }
 
     /// The names of all replays, in byte order.
@@ -211,6 +220,27 @@ impl Replays {
             }
             None => None,
         }
+    }
+}
+
+/// Whether one of the replays of these numbers sends its events to the bus.
+fn is_one_sent_to(all: &KeyTree<ReplayRow>, numbers: &[u64], bus: &str) -> bool
+    ensures { result ≡ spec.is_one_sent_to bus.now all.now numbers.now }
+{
+    match numbers {
+        [number, rest @ ..] => {
+            is_row_sent_to(all.get(u128::from(*number)), bus) || is_one_sent_to(all, rest, bus)
+        }
+        [] => false,
+    }
+}
+
+fn is_row_sent_to(row: Option<&ReplayRow>, bus: &str) -> bool
+    ensures { result ≡ spec.is_row_sent_to bus.now (option_copied row.entry) }
+{
+    match row {
+        Some(row) => row.settings.bus.as_str() == bus,
+        None => false,
     }
 }
 

@@ -20,7 +20,7 @@ use Rattle.router_calls.specs.Answer.{Answer, Decided, HasPlaced, IsAnswer, answ
 use Rattle.router_calls.specs.Matched.{IsMatchedOn}
 use Rattle.router_calls.specs.Permission.{IsPolicyNamed}
 use Rattle.router_calls.specs.Steps.{HasAccount, HaveAccounts, IsDecidedAs, IsSeenOn}
-use Rattle.router_calls.proofs.TimeLemmas.{iso_of}
+use Rattle.router_core.proofs.TimeLemmas.{iso_of}
 
 -- what a slice pattern takes apart
 pub first_and_rest : {X : Type 0} (xs : List X) (x : X) → 1 ≤ length xs → x ≡ get_or xs 0 x → xs ≡ x ∷ take (length xs - 1) (drop 1 xs)

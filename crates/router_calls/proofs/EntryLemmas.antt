@@ -21,7 +21,8 @@ use Rattle.router_core.specs.View.{accepted_of, entry_of}
 use Rattle.router_core.specs.Request.{put_events}
 use Rattle.router_core.specs.Tables.{Tables, after_entry}
 use Rattle.router_core.specs.Admitted.{IsEventAdmitted, AreAdmitted, IsAnEvent}
-use Rattle.router_core.specs.Ready.{IsPartOf, ArePartsOf, set_after}
+use Rattle.router_core.specs.Ready.{IsPartOf, ArePartsOf, IsNoStart, set_after}
+use Rattle.router_core.proofs.StartLemmas.{made_on}
 use Rattle.router_core.specs.Matching.{AreArchivesOf, AreKeepingFor, AreMatchedFor, AreSeenEntries, AreTargetsOf, IsSeenEntry}
 use Rattle.router_core.specs.declared.seen.SeenArchive.{SeenArchive}
 use Rattle.router_core.specs.declared.seen.SeenEntry.{SeenEntry}
@@ -260,6 +261,8 @@ are_ready t set caller time k n moment entries size seen old new sound version k
       admitted = subst (λ (es : List batch.Entry). AreAdmitted moment es t) (sym events)
           (all_admitted t set caller time moment n entries seen all sound known bounded.2 accounts are number placed);
       parts = places.adds.parts t.set (subst (λ es. ArePartsOf moment t.set (map entry_of es) old.parts.items) (sym fresh.entries) none);
+      on = made_on moment (map entry_of new.entries.items) new.parts.items t
+          (subst (All IsNoStart) (sym events) (All-map IsNoStart batch.accepted (events_in all) (λ k d low. tt)));
     }
 
 -- what is decided for the entries that were placed

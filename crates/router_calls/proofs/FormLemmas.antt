@@ -1,19 +1,20 @@
 -- The form of an answer: its reply has a status of those that are written from a value, and its batch, if there is one, has only operations
 -- that its action asks for. `request_form` says so of each request; `its_change` follows, which the law of src/laws.rt cites.
 use Rattle.std.proofs.Common.{◌≡◌, ℕ, inl, inr, Bool, true, false, List, [], ◌∷◌, map, Option, Some, None, sym, refl, subst}
-use Rattle.std.specs.Prelude.{All, cond, nat_lt, ◌&&◌}
+use Rattle.std.specs.Prelude.{All, cond, is_some, nat_lt, not, ◌&&◌}
 use Rattle.std.specs.List.{Contains}
 use Rattle.std.proofs.lemmas.List.Elements.{All-cons, All-nil, All-contains}
 use Rattle.json_text.specs.Limits.{most_together}
 use Rattle.json_text.specs.Tree.{Tree}
 use Rattle.name_rows.specs.Rows.{named}
 use Rattle.rule_table.specs.declared.control.ControlFault.{ControlFault}
-use Rattle.rule_table.specs.Control.{Control}
+use Rattle.rule_table.specs.Control.{Control, bus_deleted}
 use Rattle.rule_table.specs.Refusal as table
 use Rattle.archive_keep.specs.Archive.{Archive}
 use Rattle.archive_keep.specs.Archives.{name_of}
 use Rattle.rule_table.specs.RuleSet.{Archive as Row, Rule, Bus, RuleSet, archive_at, has_bus, has_queue, rule_at}
 use Rattle.delivery_duties.specs.Duties.{names_queue}
+use Rattle.replay_run.specs.Replays.{is_sent_to}
 use Rattle.delivery_queues.specs.declared.stored.StoredMessage.{StoredMessage}
 use Rattle.delivery_queues.specs.Queues.{messages_of, messages_through}
 use Rattle.api_replies.specs.declared.kind.Kind.TheVariants as kind
@@ -50,6 +51,9 @@ abbrev pub IsOf : Tables → Action → batch.Entry → Type 0
 IsOf t action (batch.control c) = MayMake t action c
 IsOf t action (batch.accepted e) = IsPublishing action
 IsOf t action (batch.attempt duty outcome) = ⊥
+IsOf t action (batch.replay_started s) = ⊥
+IsOf t action (batch.replay_stepped s) = ⊥
+IsOf t action (batch.replay_cancelled name) = ⊥
 IsOf t action (batch.messages_deleted queue through) = Unit {0}
 
 abbrev pub AreOf : Tables → Action → List batch.Entry → Type 0
@@ -172,7 +176,9 @@ replied false x y p q = q
 formed : (t : Tables) (moment : ℕ) (seen : SeenResult) (became : List Placed) (policy : Option Tree) (action : Action) → IsPolicyNamed t.set action policy
     → IsFormed t action (decided t moment seen became policy action)
 formed t moment seen became policy (create_event_bus name) is = changes t _ _ _ (inl refl) refl
-formed t moment seen became policy (delete_event_bus name) is = changes t _ _ _ (inl refl) refl
+formed t moment seen became policy (delete_event_bus name) is =
+    either t _ (not (is_some (table.refusal (bus_deleted name) t.set)) && is_sent_to name t.replays) _ _ (refused t _ (cause.InUse kind.EventBus name))
+    (changes t (delete_event_bus name) _ _ (inl refl) refl)
 formed t moment seen became policy (describe_event_bus name) is = bus_shown t _ t.set name _ (λ bus. inl refl)
 formed t moment seen became policy (list_event_buses prefix) is = alone t _ _ (inl refl)
 formed t moment seen became policy (put_rule bus name pattern enabled) is = changes t _ _ _ (inl refl) refl

@@ -6,7 +6,6 @@
 -- and parts.
 -- A pair as the fact of an `Any` is one component of the tuple pattern: `(k, row, below, is, (same, other))`. A label is in its goal's
 -- name.
-pub mod TimeLemmas
 pub mod CallLemmas
 pub mod DecidedLemmas
 pub mod KeptLemmas

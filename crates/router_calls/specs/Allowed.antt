@@ -35,6 +35,9 @@ abbrev pub IsAllowedEntry : RuleSet → RuleSet → ℕ → List ℕ → List Gi
 IsAllowedEntry tables_set set moment caller entries (batch.accepted e) = IsAllowedEvent tables_set set moment caller entries e
 IsAllowedEntry tables_set set moment caller entries (batch.control c) = ⊥
 IsAllowedEntry tables_set set moment caller entries (batch.attempt duty outcome) = ⊥
+IsAllowedEntry tables_set set moment caller entries (batch.replay_started s) = ⊥
+IsAllowedEntry tables_set set moment caller entries (batch.replay_stepped s) = ⊥
+IsAllowedEntry tables_set set moment caller entries (batch.replay_cancelled name) = ⊥
 IsAllowedEntry tables_set set moment caller entries (batch.messages_deleted queue through) = ⊥
 
 -- Nothing is written, or a batch of such entries.

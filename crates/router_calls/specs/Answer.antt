@@ -23,6 +23,7 @@ use Rattle.rule_table.specs.Refusal as table
 use Rattle.delivery_queues.specs.declared.stored.StoredMessage.{StoredMessage}
 use Rattle.delivery_queues.specs.Queues.{messages_of, messages_through}
 use Rattle.delivery_duties.specs.Duties.{names_queue}
+use Rattle.replay_run.specs.Replays.{is_sent_to}
 use Rattle.api_replies.specs.declared.kind.Kind.TheVariants as kind
 use Rattle.api_replies.specs.declared.cause.Cause.{Cause}
 use Rattle.api_replies.specs.declared.cause.Cause.TheVariants as cause
@@ -173,6 +174,13 @@ queue_deletion t name =
     if has_queue name t.set && names_queue name t.duties then refusal (cause.InUse kind.Queue name)
     else controlled t.set (queue_deleted name) empty_reply
 
+-- DeleteEventBus: what the rule set refuses is refused as such; else a bus to which a running replay sends its events is in use.
+-- Shown by: proofs alone.
+abbrev pub bus_deletion : Tables → List ℕ → Decided
+bus_deletion t name =
+    if not (is_some (table.refusal (bus_deleted name) t.set)) && is_sent_to name t.replays then refusal (cause.InUse kind.EventBus name)
+    else controlled t.set (bus_deleted name) empty_reply
+
 -- The deletion of these messages, which have numbers up to `through`, is one operation of a batch; without a message nothing is written.
 -- Shown by: empty-a-queue.
 abbrev pub deletion_of : List ℕ → ℕ → List StoredMessage → Decided
@@ -215,7 +223,7 @@ archive_update t name pattern days =
 abbrev pub decided : Tables → ℕ → SeenResult → List Placed → Option Tree → Action → Decided
 decided t moment seen placed policy (create_event_bus name) =
     controlled t.set (bus_created name) (served ((codes "EventBusArn", text (bus_arn name)) ∷ []))
-decided t moment seen placed policy (delete_event_bus name) = controlled t.set (bus_deleted name) empty_reply
+decided t moment seen placed policy (delete_event_bus name) = bus_deletion t name
 decided t moment seen placed policy (describe_event_bus name) = shown (described_bus name t.set)
 decided t moment seen placed policy (list_event_buses prefix) = shown (listed_buses prefix t.set)
 decided t moment seen placed policy (put_rule bus name pattern enabled) =

@@ -3,7 +3,7 @@ use Rattle.std.specs.Prelude.{◌≤◌, ℕ, Option, map, length}
 use Rattle.std.specs.Option.{option_map}
 use Rattle.api_replies.specs.View.{reply_of}
 use Rattle.router_core.specs.Admitted.{AreAdmitted, AreOfOneTurn}
-use Rattle.router_core.specs.Ready.{ArePartsOf}
+use Rattle.router_core.specs.Ready.{ArePartsOf, AreMadeOn}
 use Rattle.router_core.specs.Tables.{Tables}
 use Rattle.router_core.specs.View.{batch_of, entry_of}
 use Rattle.router_core.specs.declared.ready.Ready.{Ready}
@@ -26,3 +26,4 @@ pub record CanBeMade (t : Tables) (moment : ℕ) (d : Decided) : Type 0 where
   pub one_turn : 1 ≤ length (map entry_of d.entries.items) → AreOfOneTurn (map entry_of d.entries.items)
   pub admitted : AreAdmitted moment (map entry_of d.entries.items) t
   pub parts : ArePartsOf moment t.set (map entry_of d.entries.items) d.parts.items
+  pub on : AreMadeOn moment t (map entry_of d.entries.items) d.parts.items

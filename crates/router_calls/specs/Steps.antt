@@ -19,7 +19,7 @@ use Rattle.router_core.specs.Tables.{Tables}
 use Rattle.router_core.specs.Admitted.{AreAdmitted, IsAnEvent}
 use Rattle.router_core.specs.View.{accepted_of, entry_of}
 use Rattle.router_core.specs.Matching.{AreSeenEntries, IsSeenResult}
-use Rattle.router_core.specs.Ready.{IsPartOf, ArePartsOf}
+use Rattle.router_core.specs.Ready.{IsPartOf, ArePartsOf, AreMadeOn}
 use Rattle.router_core.specs.declared.batch.AcceptedEvent.{AcceptedEvent}
 use Rattle.router_core.specs.declared.batch.Entry.TheVariants as entry
 use Rattle.router_core.specs.declared.ready.Part.{Part}
@@ -102,12 +102,13 @@ placed_decided all = record {
   reply = items_reply all.failed (codes "Entries") (trees_of all.reports.items);
 }
 
--- the events that were placed are those of one turn, are admitted at the moment, and have their parts
+-- the events that were placed are those of one turn, are admitted at the moment, and have their parts, as far as these need the tables
 pub record AreReady (t : Tables) (moment : ℕ) (all : PlacedEntries) : Type 0 where
   pub few : length (map entry_of all.entries.items) ≤ 10
   pub are_events : All IsAnEvent (map entry_of all.entries.items)
   pub admitted : AreAdmitted moment (map entry_of all.entries.items) t
   pub parts : ArePartsOf moment t.set (map entry_of all.entries.items) all.parts.items
+  pub on : AreMadeOn moment t (map entry_of all.entries.items) all.parts.items
 
 -- the targets add those that are accepted, and reports of the others
 pub record AddsTargets (set : RuleSet) (targets : List AskedTarget) (old new : SplitTargets) : Type 0 where

@@ -25,7 +25,7 @@ pub(crate) fn configure(
     reply: Reply,
 ) -> Result<Decided, NoMemory>
     requires form { IsAllowed (control_of control) tables.now.set → IsWellFormed (control_of control) }
-    requires unnamed { IsAllowed (control_of control) tables.now.set → IsUnnamed (control_of control) tables.now.duties }
+    requires unnamed { IsAllowed (control_of control) tables.now.set → IsUnnamed (control_of control) tables.now }
     ensures answer { IfOk result (λ d. decided_of d ≡ controlled tables.now.set (control_of control) (reply_of reply)) }
     ensures made { IfOk result (λ d. CanBeMade tables.now moment d) }
 {

@@ -1,19 +1,22 @@
 //! DeleteEventBus.
-ghost use Rattle.std.specs.Prelude.{◌≡◌, IfOk};
+ghost use Rattle.std.specs.Prelude.{◌≡◌, IfOk, true};
 ghost use Rattle.event_shape.specs.Names.{IsBusName};
 ghost use Rattle.rule_table.specs.Control.{bus_deleted};
-ghost use Rattle.call_replies.specs.Replies.{empty_reply};
-ghost use Rattle.router_calls.specs.Answer.{controlled};
+ghost use Rattle.rule_table.specs.View.{control_of};
+ghost use Rattle.replay_run.specs.Replays.{is_sent_to};
+ghost use Rattle.router_calls.specs.Answer.{bus_deletion, refusal};
 ghost use Rattle.router_calls.specs.Decided.{decided_of, CanBeMade};
 
 use crate::configure::configure;
-use crate::decided::Decided;
-use call_replies::empty_reply;
+use crate::decided::{Decided, refused};
+use crate::requests::read_tables;
+use call_replies::{change_cause, empty_reply};
 use json_text::{NoMemory, Text};
-use router_core::Tables;
+use router_core::{Cause, Kind, Part, Tables};
 use rule_table::Control;
 use std::alloc::Global;
 
+/// Deletes the bus. A bus that has a rule or an archive, or to which a running replay sends its events, is in use.
 pub(crate) fn delete_event_bus(
     alloc: Global,
     tables: &Tables,
@@ -21,11 +24,55 @@ pub(crate) fn delete_event_bus(
     name: &Text,
 ) -> Result<Decided, NoMemory>
     requires bus { IsBusName name.now }
-    ensures answer { IfOk result (λ d. decided_of d ≡ controlled tables.now.set (bus_deleted name.now) empty_reply) }
+    ensures answer { IfOk result (λ d. decided_of d ≡ bus_deletion tables.now name.now) }
+    ensures made { IfOk result (λ d. CanBeMade tables.now moment d) }
+{
+    if tables.replays().goes_to(name.as_str()) {
+        return keep_bus(alloc, tables, moment, name);
+    }
+    let control = Control::BusDeleted {
+        name: name.copy(alloc)?,
+    };
+    configure(alloc, tables, moment, control, empty_reply(alloc))
+}
+
+/// Why a bus to which a running replay sends its events stays.
+fn keep_bus(alloc: Global, tables: &Tables, moment: u64, name: &Text) -> Result<Decided, NoMemory>
+    requires used { is_sent_to name.now tables.now.replays ≡ true }
+    ensures answer { IfOk result (λ d. decided_of d ≡ bus_deletion tables.now name.now) }
     ensures made { IfOk result (λ d. CanBeMade tables.now moment d) }
 {
     let control = Control::BusDeleted {
         name: name.copy(alloc)?,
     };
-    configure(alloc, tables, moment, control, empty_reply(alloc))
+    let cause = cause_to_keep(alloc, tables, moment, &control, name)?;
+    refused(alloc, &cause)
+}
+
+/// What the rule set says comes first.
+fn cause_to_keep(
+    alloc: Global,
+    tables: &Tables,
+    moment: u64,
+    control: &Control,
+    name: &Text,
+) -> Result<Cause, NoMemory>
+    requires control { control_of control.now ≡ bus_deleted name.now }
+    requires used { is_sent_to name.now tables.now.replays ≡ true }
+    ensures { IfOk result (λ cause. refusal cause ≡ bus_deletion tables.now name.now) }
+{
+    read_tables(tables);
+    match Part::of_control(alloc, tables.set(), control, moment) {
+        Ok(_) => in_use(alloc, name),
+        Err(fault) => change_cause(alloc, control, fault),
+    }
+}
+
+fn in_use(alloc: Global, name: &Text) -> Result<Cause, NoMemory>
+    ensures { IfOk result (λ cause. cause ≡ Cause.InUse Kind.EventBus name.now) }
+{
+    Ok(Cause::InUse {
+        kind: Kind::EventBus,
+        name: name.copy(alloc)?,
+    })
 }

@@ -71,7 +71,7 @@ pub(crate) fn change_with_reports(
 ) -> Result<Decided, NoMemory>
     requires allowed { IsTrue some → IsAllowed (control_of control) tables.now.set }
     requires form { IsTrue some → IsWellFormed (control_of control) }
-    requires unnamed { IsUnnamed (control_of control) tables.now.duties }
+    requires unnamed { IsUnnamed (control_of control) tables.now }
     ensures answer { IfOk result (λ d. decided_of d ≡ (if some
         then writes (change (control_of control)) (items_reply (length reports.items) (codes "FailedEntries") (trees_of reports.items))
         else shown (items_reply (length reports.items) (codes "FailedEntries") (trees_of reports.items)))) }

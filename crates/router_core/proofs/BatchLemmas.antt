@@ -9,21 +9,25 @@ use Rattle.std.proofs.lemmas.List.Elements.{All-head, All-tail}
 use Rattle.archive_keep.specs.Archive.{Archive}
 use Rattle.archive_keep.specs.Archives.{all_purged, name_of}
 use Rattle.rule_table.specs.RuleSet.{RuleSet}
-use Rattle.router_core.specs.Batch.{Batch, Entry, control, accepted, attempt, messages_deleted}
+use Rattle.router_core.specs.Batch.{Batch, Entry, control, accepted, attempt, replay_started, replay_stepped, replay_cancelled, messages_deleted}
 use Rattle.router_core.specs.Tables.{Tables, after_entry, after_entries, after_batch, number_limit, KeepsUpTo, IsConsistent}
 use Rattle.router_core.specs.Admitted.{IsNoChange, IsEntryAdmitted, AreOfOneTurn, AreAdmitted, IsAdmitted}
 use Rattle.router_core.specs.View.{batch_of, entry_of}
 use Rattle.router_core.specs.declared.batch.Entry.{Entry as CodeEntry}
 use Rattle.router_core.specs.declared.ready.Ready.{Ready}
-use Rattle.router_core.specs.Ready.{IsPartOf, ArePartsOf, IsPrepared, IsReadyFor, set_after}
+use Rattle.router_core.specs.Ready.{IsPartOf, ArePartsOf, AreMadeOn, IsMadeOn, IsNoStart, IsPrepared, IsReadyFor, set_after}
 use Rattle.router_core.specs.declared.ready.Part.{Part}
 use Rattle.router_core.proofs.KeepingLemmas.{all_purged_up, few_events, names_purged}
+use Rattle.router_core.proofs.StartLemmas.{made_on}
 
 -- the rule set after an entry
 set_of : (moment : ℕ) (e : Entry) (t : Tables) → (after_entry moment e t).set ≡ set_after e t.set
 set_of moment (control c) t = refl
 set_of moment (accepted e) t = refl
 set_of moment (attempt duty outcome) t = refl
+set_of moment (replay_started s) t = refl
+set_of moment (replay_stepped s) t = refl
+set_of moment (replay_cancelled name) t = refl
 set_of moment (messages_deleted queue through) t = refl
 
 -- one turn has from one to ten entries
@@ -37,11 +41,15 @@ one_entry : (moment : ℕ) (e : Entry) (t : Tables) → t.moment ≤ moment
 one_entry moment (control c) t le = (refl, refl, le)
 one_entry moment (accepted e) t le = (refl, refl, omega (arith, le))
 one_entry moment (attempt duty outcome) t le = (refl, refl, le)
+one_entry moment (replay_started s) t le = (refl, refl, le)
+one_entry moment (replay_stepped s) t le = (refl, refl, le)
+one_entry moment (replay_cancelled name) t le = (refl, refl, le)
 one_entry moment (messages_deleted queue through) t le = (refl, refl, le)
 
 -- the tables are those after some first entries of a batch; the rest of the entries and their parts are left
 pub record IsLeft (moment : ℕ) (entries rest : List Entry) (old now : Tables) (parts : List Part) : Type 0 where
   pub own : ArePartsOf moment now.set rest parts
+  pub on : AreMadeOn moment now rest parts
   pub admitted : AreAdmitted moment rest now
   pub same : after_entries moment rest now ≡ after_entries moment entries old
   pub made : now.entries + length rest ≡ old.entries + length entries
@@ -54,7 +62,8 @@ pub record IsLeft (moment : ℕ) (entries rest : List Entry) (old now : Tables) 
 pub left_all : (t : Tables) (r : Ready) → IsReadyFor t r → t.batches ≤ t.entries
     → IsLeft r.batch.moment (batch_of r.batch).entries (batch_of r.batch).entries t t r.parts.items
 left_all t r ready fewer = record {
-  own = ready.prepared;
+  own = ready.prepared.0;
+  on = ready.prepared.1;
   admitted = ready.admitted.entries;
   same = refl;
   made = refl;
@@ -105,8 +114,9 @@ left_room b after e old now parts admitted left =
 
 -- the part of the entry, which is admitted
 pub left_first : (moment : ℕ) (entries after : List Entry) (e : Entry) (old now : Tables) (part : Part) (parts : List Part)
-    → IsLeft moment entries (e ∷ after) old now (part ∷ parts) → IsPartOf moment now.set e part × IsEntryAdmitted moment e now × (now.moment ≤ moment)
-left_first moment entries after e old now part parts left = (left.own.0, left.admitted.0, left.at)
+    → IsLeft moment entries (e ∷ after) old now (part ∷ parts)
+    → IsPartOf moment now.set e part × IsEntryAdmitted moment e now × (now.moment ≤ moment) × IsMadeOn moment now e part
+left_first moment entries after e old now part parts left = (left.own.0, left.admitted.0, left.at, left.on.0)
 
 pub left_next : (moment : ℕ) (entries after : List Entry) (e : Entry) (old now new : Tables) (part : Part) (parts : List Part)
     → IsLeft moment entries (e ∷ after) old now (part ∷ parts) → new ≡ after_entry moment e now → new.duties.created ≤ now.duties.created + 1500
@@ -116,6 +126,7 @@ left_next moment entries after e old now new part parts left is few =
     record {
       own = subst (λ (t : Tables). ArePartsOf moment t.set after parts) (sym is)
           (subst (λ (s : RuleSet). ArePartsOf moment s after parts) (sym (set_of moment e now)) left.own.1);
+      on = subst (λ (t : Tables). AreMadeOn moment t after parts) (sym is) left.on.1;
       admitted = subst (AreAdmitted moment after) (sym is) left.admitted.1;
       same = ap (after_entries moment after) is ∙ left.same;
       made = omega (arith, left.made, one.0, ap (λ (t : Tables). t.entries) is);
@@ -142,6 +153,7 @@ batch_kept b old now t n archives parts admitted was same is left_so left =
       created = was.created;
       archives = ap (map name_of) left_so ∙ names_purged b.moment t.archives ∙ was.archives;
       kept = subst (All (KeepsUpTo t.events b.moment)) (sym left_so) (all_purged_up t.events t.moment b.moment b.moment t.archives le was.kept);
+      starts = was.starts;
     }
 
 max_later : (a b : ℕ) → a ≤ b → max a b ≡ b
@@ -168,6 +180,9 @@ same_set : (moment : ℕ) (e : Entry) (t : Tables) → IsNoChange e → (after_e
 same_set moment (control c) t none = absurd none
 same_set moment (accepted e) t some = refl
 same_set moment (attempt duty outcome) t some = refl
+same_set moment (replay_started s) t some = refl
+same_set moment (replay_stepped s) t some = refl
+same_set moment (replay_cancelled name) t some = refl
 same_set moment (messages_deleted queue through) t some = refl
 
 same_set_all : (moment : ℕ) (es : List Entry) (t : Tables) → All IsNoChange es → (after_entries moment es t).set ≡ t.set
@@ -175,7 +190,10 @@ same_set_all moment [] t all = refl
 same_set_all moment (e ∷ es) t all =
     same_set_all moment es (after_entry moment e t) (All-tail IsNoChange e es all) ∙ same_set moment e t (All-head IsNoChange e es all)
 
--- what is prepared stays so while the configuration does not change
-pub still_prepared : (t : Tables) (r : Ready) (b : Batch) → All IsNoChange b.entries → IsPrepared t r → IsPrepared (after_batch b t) r
-still_prepared t r b all prepared =
-    subst (λ (s : RuleSet). ArePartsOf r.batch.moment s (batch_of r.batch).entries r.parts.items) (sym (same_set_all b.moment b.entries t all)) prepared
+-- what is prepared stays so while the configuration does not change, unless it starts a replay
+pub still_prepared : (t : Tables) (r : Ready) (b : Batch) → All IsNoChange b.entries → All IsNoStart (batch_of r.batch).entries → IsPrepared t r
+    → IsPrepared (after_batch b t) r
+still_prepared t r b all starts prepared = (
+  subst (λ (s : RuleSet). ArePartsOf r.batch.moment s (batch_of r.batch).entries r.parts.items) (sym (same_set_all b.moment b.entries t all)) prepared.0,
+  made_on r.batch.moment (batch_of r.batch).entries r.parts.items (after_batch b t) starts,
+)

@@ -10,11 +10,15 @@
 -- `Snapshot` is `Send`.
 -- A law that another crate's proof needs is a lemma of a `pub mod`; a law function alone cannot be cited. `counts()` gives a caller
 -- `ordered`.
+pub mod TimeLemmas
+pub mod StartLemmas
 mod KeepingLemmas
 mod TablesLemmas
 mod BatchLemmas
 mod ClaimLemmas
 mod SettleLemmas
+mod RepeatedLemmas
+mod ReplayingLemmas
 pub mod MatchingLemmas
 pub mod DutyLemmas
 pub mod OnceLemmas

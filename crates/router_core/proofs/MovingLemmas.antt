@@ -1,7 +1,7 @@
 -- Tables may go to another thread, and so may a claimed duty with its record: `tables_send`, `errand_send`. A struct with no view of its own is
 -- named by `the_field_send` where it is a field.
 use denote.Builtin.{u64}
-use denote.Param.Send.{IsSend, sendable}
+use denote.Param.Send.{IsSend, IsSync, sendable}
 use Rattle.std.proofs.Crossing.{crosses}
 use Rattle.std.proofs.collections.LinkedList.TheSendSync as list
 use Rattle.http_server.proofs.log.Log.TheSendSync as log
@@ -12,6 +12,13 @@ use Rattle.archive_keep.proofs.event_ref.KeptEvent.TheSendSync as kept
 use Rattle.archive_keep.specs.contracts.event_ref.EventRef as event
 use Rattle.archive_keep.specs.contracts.archive.Archive as archive
 use Rattle.archive_keep.specs.contracts.archives.Archives as archives
+use Rattle.name_rows.proofs.rows.Rows.TheSendSync as rows
+use Rattle.replay_run.specs.contracts.settings.RuleNames as rule_names
+use Rattle.replay_run.specs.contracts.settings.ReplaySettings as settings
+use Rattle.replay_run.specs.contracts.replay.Replay as replay
+use Rattle.replay_run.specs.contracts.row.ReplayRow as replay_row
+use Rattle.replay_run.specs.contracts.row.NumberedName as numbered
+use Rattle.replay_run.specs.contracts.replays.Replays as replays
 use Rattle.delivery_queues.proofs.stored.StoredMessage.TheSendSync as message
 use Rattle.delivery_duties.proofs.duty.DutyRow.TheSendSync as row
 use Rattle.delivery_duties.specs.contracts.owed.Owed as owed
@@ -27,6 +34,8 @@ use Rattle.shared_text.proofs.text.SharedText.TheSendSync as shared_text
 use Rattle.rule_targets.proofs.target.Target.TheSendSync as target
 use Rattle.rule_table.specs.contracts.control.Control as control
 use Rattle.router_core.proofs.batch.AcceptedEvent.TheSendSync as accepted
+use Rattle.router_core.specs.contracts.batch.StartedReplay as started
+use Rattle.router_core.proofs.batch.SteppedReplay.TheSendSync as stepped
 use Rattle.router_core.specs.contracts.batch.Entry as entry
 use Rattle.router_core.specs.contracts.batch.Batch as batch
 use Rattle.router_core.specs.contracts.errand.Errand as errand
@@ -63,14 +72,47 @@ archive_send = search (sendable, crosses, list.the_send, text.the_send, event_se
 archives_send : IsSend archives.the_row
 archives_send = search (sendable, crosses, archive_send) depth 20
 
+rule_names_send : IsSend rule_names.the_row
+rule_names_send = search (sendable, crosses, text.the_send) depth 20
+
+settings_send : IsSend settings.the_field.row
+settings_send = search (sendable, crosses, text.the_send, rule_names_send) depth 20
+
+replay_send : IsSend replay.the_row
+replay_send = search (sendable, crosses, event_send) depth 20
+
+replay_row_send : IsSend replay_row.the_row
+replay_row_send = search (sendable, crosses, settings_send, replay_send) depth 20
+
+numbered_send : IsSend numbered.the_row
+numbered_send = search (sendable, crosses, text.the_send) depth 20
+
+numbered_sync : IsSync numbered.the_row
+numbered_sync = search (sendable, crosses, text.the_sync) depth 20
+
+replays_send : IsSend replays.the_row
+replays_send = search (sendable, crosses, tree.crosses, replay_row_send, rows.the_send, numbered_send, numbered_sync) depth 20
+
 pub tables_send : IsSend tables.the_row
-tables_send = search (sendable, set_send, duties_send, archives_send) depth 20
+tables_send = search (sendable, set_send, duties_send, archives_send, replays_send) depth 20
 
 control_send : IsSend control.the_field.row
 control_send = search (sendable, crosses, text.the_send, shared_pattern_send, stored_policy_send, target.the_send) depth 20
 
+started_send : IsSend started.the_field.row
+started_send = search (sendable, crosses, text.the_send, rule_names_send) depth 20
+
 entry_send : IsSend entry.the_row
-entry_send = search (sendable, crosses, text.the_send, control_send, accepted.the_field_send, outcome.the_field_send) depth 20
+entry_send = search (
+  sendable,
+  crosses,
+  text.the_send,
+  control_send,
+  accepted.the_field_send,
+  started_send,
+  stepped.the_field_send,
+  outcome.the_field_send,
+) depth 20
 
 batch_send : IsSend batch.the_field.row
 batch_send = search (sendable, crosses, entry_send) depth 20

@@ -135,6 +135,7 @@ with_attempt t now n moment outcome new archives same admitted names made left w
       created = omega (arith, was.created, made);
       archives = ap (map name_of) left ∙ names_purged moment t.archives ∙ was.archives;
       kept = subst (All (KeepsUpTo t.events moment)) (sym left) (all_purged_up t.events t.moment moment moment t.archives le was.kept);
+      starts = omega (arith, was.starts);
     }
 
 same_fate : (row : DutyRow) (attempt : Attempt) (v : Verdict) → fate_of (state_by (marked row) attempt v) ≡ fate_of (state_by row attempt v)

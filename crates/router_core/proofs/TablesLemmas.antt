@@ -1,9 +1,10 @@
 -- The tables after one entry of a batch, by its part. The answers of `Tables` cite `change_part`, `event_part`, `event_few`, `deletion_part`,
--- `room_for`, `archive_room`, `can_keep`, `duties_by`, `created_after`, `has_changed`, `has_published`, `with_change`, `with_event`,
+-- `start_part`, `step_part`, `step_few`, `cancellation_part`, `can_start`, `with_replay`, `started`, `with_step`, `stepped`,
+-- `with_cancellation`, `cancelled`, `archive_kept`, `archive_known`, `new_replay_so`, `room_for`, `archive_room`, `can_keep`, `duties_by`, `created_after`, `has_changed`, `has_published`, `with_change`, `with_event`,
 -- `with_deletion`, `changed` and `published`.
-use Rattle.std.proofs.Common.{◌≡◌, ℕ, ◌+◌, ◌^◌, ◌<◌, ◌≤◌, true, false, cond, List, [], ◌∷◌, length}
+use Rattle.std.proofs.Common.{◌≡◌, ℕ, ◌+◌, ◌^◌, ◌<◌, ◌≤◌, true, false, cond, List, [], ◌∷◌, ◌++◌, length, suc, length-append}
 use Rattle.std.proofs.Common.{map, max, Option, Some, None, sym, refl, ap, subst, ◌∙◌, arith}
-use Rattle.std.specs.Prelude.{All, bytes_eq, IfSome, IsTrue}
+use Rattle.std.specs.Prelude.{All, bytes_eq, IfSome, IfOk, IsTrue, Result, Ok, Err, is_some}
 use Rattle.std.specs.declared.cmp.Ordering.TheVariants.{Less, Equal, Greater}
 use Rattle.std.proofs.Common.{is_eq}
 use Rattle.std.specs.Cmp.Lexicographic.{slice_cmp}
@@ -12,27 +13,35 @@ use Rattle.std.proofs.lemmas.Slice.Eq.{bytes_eq-Decides}
 use Rattle.std.proofs.lemmas.List.{length-map}
 use Rattle.std.proofs.lemmas.Map.Text.{is_eq-slice_cmp}
 use Rattle.json_text.specs.Moment.{IsMoment}
-use Rattle.name_rows.specs.Rows.{AreSorted, by_order}
+use Rattle.name_rows.specs.Rows.{AreSorted, by_order, named}
 use Rattle.archive_keep.specs.declared.event_ref.KeptEvent.{KeptEvent}
 use Rattle.archive_keep.specs.Archive.{Archive}
 use Rattle.archive_keep.specs.Archives.{most_archives, name_of}
 use Rattle.rule_table.specs.Control.{Control, bus_created, bus_deleted, rule_put, rule_deleted, state_put, targets_put, targets_removed, policy_put}
 use Rattle.rule_table.specs.Control.{queue_created, queue_deleted, archive_created, archive_updated, archive_deleted}
-use Rattle.rule_table.specs.RuleSet.{RuleSet, put_queue, without_queue, applied}
+use Rattle.rule_table.specs.RuleSet.{RuleSet, put_queue, without_queue, applied, archive_at, has_archive}
+use Rattle.rule_table.specs.RuleSet.{Archive as Row}
 use Rattle.rule_table.specs.Refusal.{IsAllowed}
 use Rattle.rule_table.specs.WellFormed.{is_well_formed}
 use Rattle.rule_table.proofs.AllowedLemmas.{queue_new, archive_new}
 use Rattle.delivery_duties.specs.declared.duty.NewDuty.{NewDuty}
 use Rattle.delivery_queues.specs.Queues.{Queue, with_queue, without_queue as less_queue}
 use Rattle.delivery_duties.specs.Duties.{Duties, added, with_deleted}
-use Rattle.router_core.specs.Batch.{Accepted, Entry, control, accepted, attempt, messages_deleted}
-use Rattle.router_core.specs.Tables.{Tables, duties_after, archives_after, kept_event, kept_by, after_entry, number_limit, KeepsUpTo, IsConsistent}
-use Rattle.router_core.specs.Admitted.{IsEventAdmitted, IsEntryAdmitted}
+use Rattle.router_core.specs.Batch.{Accepted, Stepped, Entry, control, accepted, attempt, replay_started, replay_stepped, replay_cancelled, messages_deleted}
+use Rattle.router_core.specs.Tables.{Tables, duties_after, archives_after, kept_event, kept_by, after_entry, number_limit, replays_started, settings_of, with_start, KeepsUpTo, IsConsistent}
+use Rattle.router_core.specs.Admitted.{IsEventAdmitted, IsEntryAdmitted, IsStartAdmitted}
 use Rattle.router_core.specs.Keeping.{CanKeep}
 use Rattle.router_core.specs.Parts.{deleted_by, with_created, with_forgotten}
-use Rattle.router_core.specs.Ready.{HasPlace, AreKeptAs, IsPartOf}
+use Rattle.router_core.specs.Ready.{HasPlace, AreKeptAs, IsNewReplay, IsPartOf}
 use Rattle.router_core.proofs.KeepingLemmas.{row_name, archives_changed, all_kept, names_kept}
-use Rattle.router_core.specs.declared.ready.Part.TheVariants.{Configuration, Event, Nothing}
+use Rattle.replay_run.specs.declared.replays.NewReplay.{NewReplay}
+use Rattle.replay_run.specs.declared.row.ReplayRow.{ReplayRow}
+use Rattle.replay_run.specs.declared.settings.ReplaySettings.{ReplaySettings}
+use Rattle.replay_run.specs.Replays.{cancelled_at, cancelled_in, changed_named, first_row, found, is_running, most_running, names_of, next_number, running, stepped_at, stepped_in}
+use Rattle.replay_run.specs.Replays as replay_list
+use Rattle.replay_run.proofs.ReplaysLemmas.{first_kept}
+use Rattle.router_core.specs.declared.batch.StartedReplay.{StartedReplay}
+use Rattle.router_core.specs.declared.ready.Part.TheVariants.{Configuration, Event, Start, Step, Cancellation, Nothing}
 
 -- the names of the queues after one is created
 names_with : (name : List ℕ) (ms : List Queue) → map (λ (m : Queue). m.name) (with_queue name ms) ≡ put_queue name (map (λ (m : Queue). m.name) ms)
@@ -67,6 +76,9 @@ pub change_part : (moment : ℕ) (e : Entry) (set new : RuleSet) (queue : Option
 change_part moment (control c) set new queue archive part = (c, refl)
 change_part moment (accepted e) set new queue archive none = absurd none
 change_part moment (attempt duty outcome) set new queue archive none = absurd none
+change_part moment (replay_started s) set new place archive none = absurd none
+change_part moment (replay_stepped s) set new place archive none = absurd none
+change_part moment (replay_cancelled name) set new place archive none = absurd none
 change_part moment (messages_deleted queue through) set new place archive none = absurd none
 
 -- the part of an event is that of an event
@@ -75,6 +87,9 @@ pub event_part : (moment : ℕ) (e : Entry) (set : RuleSet) (duties : List NewDu
 event_part moment (control c) set duties kept none = absurd none
 event_part moment (accepted e) set duties kept part = (e, refl)
 event_part moment (attempt duty outcome) set duties kept none = absurd none
+event_part moment (replay_started s) set duties kept none = absurd none
+event_part moment (replay_stepped s) set duties kept none = absurd none
+event_part moment (replay_cancelled name) set duties kept none = absurd none
 event_part moment (messages_deleted queue through) set duties kept none = absurd none
 
 -- an event has few duties
@@ -83,6 +98,9 @@ pub event_few : (moment : ℕ) (e : Entry) (t : Tables) (duties : List NewDuty) 
 event_few moment (control c) t duties kept none admitted = absurd none
 event_few moment (accepted e) t duties kept part admitted = subst (λ (ds : List NewDuty). length ds ≤ 1500) (sym part.0) admitted.few
 event_few moment (attempt duty outcome) t duties kept none admitted = absurd none
+event_few moment (replay_started s) t duties kept none admitted = absurd none
+event_few moment (replay_stepped s) t duties kept none admitted = absurd none
+event_few moment (replay_cancelled name) t duties kept none admitted = absurd none
 event_few moment (messages_deleted queue through) t duties kept none admitted = absurd none
 
 -- a part that is nothing is that of a deletion of messages
@@ -90,7 +108,51 @@ pub deletion_part : (moment : ℕ) (e : Entry) (set : RuleSet) → IsPartOf mome
 deletion_part moment (control c) set none = absurd none
 deletion_part moment (accepted e) set none = absurd none
 deletion_part moment (attempt duty outcome) set none = absurd none
+deletion_part moment (replay_started s) set none = absurd none
+deletion_part moment (replay_stepped s) set none = absurd none
+deletion_part moment (replay_cancelled name) set none = absurd none
 deletion_part moment (messages_deleted queue through) set part = (queue, through, refl)
+
+-- the part of a start is that of a start
+pub start_part : (moment : ℕ) (e : Entry) (set : RuleSet) (new : NewReplay) → IsPartOf moment set e (Start new) → (s : StartedReplay) × (e ≡ replay_started s)
+start_part moment (control c) set new none = absurd none
+start_part moment (accepted e) set new none = absurd none
+start_part moment (attempt duty outcome) set new none = absurd none
+start_part moment (replay_started s) set new part = (s, refl)
+start_part moment (replay_stepped s) set new none = absurd none
+start_part moment (replay_cancelled name) set new none = absurd none
+start_part moment (messages_deleted queue through) set new none = absurd none
+
+-- the part of a step is that of a step
+pub step_part : (moment : ℕ) (e : Entry) (set : RuleSet) (duties : List NewDuty) → IsPartOf moment set e (Step duties) → (s : Stepped) × (e ≡ replay_stepped s)
+step_part moment (control c) set duties none = absurd none
+step_part moment (accepted e) set duties none = absurd none
+step_part moment (attempt duty outcome) set duties none = absurd none
+step_part moment (replay_started s) set duties none = absurd none
+step_part moment (replay_stepped s) set duties part = (s, refl)
+step_part moment (replay_cancelled name) set duties none = absurd none
+step_part moment (messages_deleted queue through) set duties none = absurd none
+
+-- a step has few duties
+pub step_few : (moment : ℕ) (e : Entry) (t : Tables) (duties : List NewDuty) → IsPartOf moment t.set e (Step duties) → IsEntryAdmitted moment e t
+    → length duties ≤ 1500
+step_few moment (control c) t duties none admitted = absurd none
+step_few moment (accepted e) t duties none admitted = absurd none
+step_few moment (attempt duty outcome) t duties none admitted = absurd none
+step_few moment (replay_started s) t duties none admitted = absurd none
+step_few moment (replay_stepped s) t duties part admitted = subst (λ (ds : List NewDuty). length ds ≤ 1500) (sym part) admitted.few
+step_few moment (replay_cancelled name) t duties none admitted = absurd none
+step_few moment (messages_deleted queue through) t duties none admitted = absurd none
+
+-- the part of a cancellation is that of a cancellation
+pub cancellation_part : (moment : ℕ) (e : Entry) (set : RuleSet) → IsPartOf moment set e Cancellation → (name : List ℕ) × (e ≡ replay_cancelled name)
+cancellation_part moment (control c) set none = absurd none
+cancellation_part moment (accepted e) set none = absurd none
+cancellation_part moment (attempt duty outcome) set none = absurd none
+cancellation_part moment (replay_started s) set none = absurd none
+cancellation_part moment (replay_stepped s) set none = absurd none
+cancellation_part moment (replay_cancelled name) set part = (name, refl)
+cancellation_part moment (messages_deleted queue through) set none = absurd none
 
 both : {created other deleted removed : Option (List ℕ)} (duties : Duties) → created ≡ other → deleted ≡ removed
     → with_forgotten deleted (with_created created duties) ≡ with_forgotten removed (with_created other duties)
@@ -205,6 +267,7 @@ with_change c moment t now set duties archives same h formed was room =
       created = omega (arith, was.created, k.created, ap (λ (d : Duties). d.created) h.all);
       archives = ap (map name_of) h.kept ∙ a.names ∙ sym (ap (λ (s : RuleSet). map row_name s.archives) h.own);
       kept = subst (All (KeepsUpTo t.events t.moment)) (sym h.kept) a.up;
+      starts = omega (arith, was.starts);
     }
 
 -- the tables after a change
@@ -288,6 +351,7 @@ with_event e moment t now duties archives count same names made h valid was room
   archives = ap (map name_of) h.kept ∙ names_kept e.archives (kept_event moment e) t.archives ∙ was.archives;
   kept = subst (All (KeepsUpTo (t.events + 1) moment)) (sym h.kept)
       (all_kept e.archives (kept_event moment e) t.archives t.events t.moment h.admitted.archive_order was.kept h.admitted.number h.later);
+  starts = omega (arith, was.starts);
 }
 
 max_later : (a b : ℕ) → a ≤ b → b ≡ max a b
@@ -322,4 +386,161 @@ with_deletion t now duties queue through same names is was room = record {
   created = omega (arith, was.created, ap (λ (d : Duties). d.created) is);
   archives = was.archives;
   kept = was.kept;
+  starts = omega (arith, was.starts);
 }
+
+-- ---- replays
+
+-- a start keeps tables consistent
+pub with_replay : (t now : Tables) (replays : List ReplayRow) (new : ReplayRow) → t ≡ now → replays ≡ t.replays ++ new ∷ [] → IsConsistent t
+    → now.entries + 1 < number_limit + 2 ^ 20 → IsConsistent (record t { replays = replays; entries = t.entries + 1 })
+with_replay t now replays new same is was room = record {
+  queues = was.queues;
+  moment = was.moment;
+  count = omega (arith, was.count);
+  events = omega (arith, was.events);
+  batches = omega (arith, was.batches);
+  entries = omega (arith, room, ap (λ (s : Tables). s.entries) same);
+  created = was.created;
+  archives = was.archives;
+  kept = was.kept;
+  starts = omega (arith, was.starts, ap (length {A = ReplayRow}) is, length-append t.replays (new ∷ []));
+}
+
+-- the replays after a start
+started_so : (moment : ℕ) (s : StartedReplay) (now : Tables) (new : NewReplay) → IsNewReplay moment s now new
+    → replays_started moment s now ≡ now.replays ++ new.row ∷ []
+started_so moment s now new made =
+    ap (λ o. with_start moment s o (named name_of s.archive now.archives) now.replays) made.known
+    ∙ ap (λ p. with_start moment s (Some made.row) p now.replays) made.kept
+    ∙ ap (λ (r : ReplayRow). now.replays ++ r ∷ []) (sym made.is)
+
+-- the tables after a start
+pub started : (moment : ℕ) (s : StartedReplay) (t now : Tables) (new : NewReplay) (replays : List ReplayRow) → t ≡ now → IsNewReplay moment s now new
+    → replays ≡ t.replays ++ new.row ∷ [] → record t { replays = replays; entries = t.entries + 1 } ≡ after_entry moment (replay_started s) now
+started moment s t now new replays same made is =
+    ap (λ (rows : List ReplayRow). record t { replays = rows; entries = t.entries + 1 }) is
+    ∙ ap (λ (x : Tables). record x { replays = x.replays ++ new.row ∷ []; entries = x.entries + 1 }) same
+    ∙ ap (λ (rows : List ReplayRow). record now { replays = rows; entries = now.entries + 1 }) (sym (started_so moment s now new made))
+
+-- what a start asks for
+pub record CanStart (all : List ReplayRow) (new : NewReplay) : Type 0 where
+  pub name : found (replay_list.name_of new.row) all ≡ None
+  pub number : new.row.number ≡ next_number all
+  pub names : new.names ≡ names_of (all ++ new.row ∷ [])
+  pub few : next_number all < 2 ^ 64
+  pub room : is_running new.row ≡ true → length (running all) < most_running
+
+pub can_start : (moment : ℕ) (s : StartedReplay) (t now : Tables) (new : NewReplay) → t ≡ now → IsNewReplay moment s now new → IsStartAdmitted now s
+    → IsConsistent t → CanStart t.replays new
+can_start moment s t now new same made admitted was =
+    let own : t.replays ≡ now.replays = ap (λ (x : Tables). x.replays) same in
+    let kept = first_kept made.archive (settings_of moment made.row s) (next_number now.replays) in
+    let name_is : replay_list.name_of new.row ≡ s.name = ap replay_list.name_of made.is ∙ ap (λ (x : ReplaySettings). x.name) kept.1 in
+    record {
+      name = ap (λ n. found n t.replays) name_is ∙ ap (found s.name) own ∙ admitted.new;
+      number = ap (λ (r : ReplayRow). r.number) made.is ∙ kept.0 ∙ ap next_number (sym own);
+      names = made.names ∙ ap (λ (rows : List ReplayRow). names_of (rows ++ new.row ∷ [])) (sym own);
+      few = omega (arith, was.starts, was.entries);
+      room = λ _. subst (λ (rows : List ReplayRow). length (running rows) < most_running) (sym own) admitted.few;
+    }
+
+-- a change of one replay leaves their number
+changed_length : (name : List ℕ) (change : ReplayRow → ReplayRow) (all : List ReplayRow) → length (changed_named name change all) ≡ length all
+changed_length name change [] = refl
+changed_length name change (row ∷ all) =
+    elim (bytes_eq (replay_list.name_of row) name) as (λ b. length (cond b (change row ∷ all) (row ∷ changed_named name change all)) ≡ length (row ∷ all)) [
+      | true ↦ refl
+      | false ↦ ap suc (changed_length name change all)
+    ]
+
+-- a step keeps tables consistent
+pub with_step : (name : List ℕ) (moment : ℕ) (t now : Tables) (duties : Duties) (replays : List ReplayRow) (count : ℕ) → t ≡ now
+    → map (λ (m : Queue). m.name) duties.queues ≡ map (λ (m : Queue). m.name) t.duties.queues → duties.created ≡ t.duties.created + count
+    → replays ≡ stepped_in name moment t.replays → IsConsistent t → now.entries + 1 < number_limit + 2 ^ 20
+    → now.duties.created + count < number_limit + 2 ^ 20 → IsConsistent (record t { duties = duties; replays = replays; entries = t.entries + 1 })
+with_step name moment t now duties replays count same names made is was room few = record {
+  queues = names ∙ was.queues;
+  moment = was.moment;
+  count = omega (arith, was.count);
+  events = omega (arith, was.events);
+  batches = omega (arith, was.batches);
+  entries = omega (arith, room, ap (λ (s : Tables). s.entries) same);
+  created = omega (arith, few, made, ap (λ (s : Tables). s.duties.created) same);
+  archives = was.archives;
+  kept = was.kept;
+  starts = omega (arith, was.starts, ap (length {A = ReplayRow}) is, changed_length name (stepped_at moment) t.replays);
+}
+
+-- the tables after a step
+pub stepped : (s : Stepped) (moment : ℕ) (t now : Tables) (own : List NewDuty) (name : List ℕ) (duties : Duties) (replays : List ReplayRow) → t ≡ now
+    → own ≡ s.duties → name ≡ s.name → duties ≡ added own moment t.duties → replays ≡ stepped_in name moment t.replays
+    → record t { duties = duties; replays = replays; entries = t.entries + 1 } ≡ after_entry moment (replay_stepped s) now
+stepped s moment t now own name duties replays same part named_so made is =
+    ap (λ (d : Duties). record t { duties = d; replays = replays; entries = t.entries + 1 }) (made ∙ ap (λ (ds : List NewDuty). added ds moment t.duties) part)
+    ∙ ap (λ (rows : List ReplayRow). record t { duties = added s.duties moment t.duties; replays = rows; entries = t.entries + 1 })
+    (is ∙ ap (λ (n : List ℕ). stepped_in n moment t.replays) named_so)
+    ∙ ap (after_entry moment (replay_stepped s)) same
+
+-- a cancellation keeps tables consistent
+pub with_cancellation : (name : List ℕ) (moment : ℕ) (t now : Tables) (replays : List ReplayRow) → t ≡ now → replays ≡ cancelled_in name moment t.replays
+    → IsConsistent t → now.entries + 1 < number_limit + 2 ^ 20 → IsConsistent (record t { replays = replays; entries = t.entries + 1 })
+with_cancellation name moment t now replays same is was room = record {
+  queues = was.queues;
+  moment = was.moment;
+  count = omega (arith, was.count);
+  events = omega (arith, was.events);
+  batches = omega (arith, was.batches);
+  entries = omega (arith, room, ap (λ (s : Tables). s.entries) same);
+  created = was.created;
+  archives = was.archives;
+  kept = was.kept;
+  starts = omega (arith, was.starts, ap (length {A = ReplayRow}) is, changed_length name (cancelled_at moment) t.replays);
+}
+
+-- the tables after a cancellation
+pub cancelled : (other : List ℕ) (moment : ℕ) (t now : Tables) (name : List ℕ) (replays : List ReplayRow) → t ≡ now → name ≡ other
+    → replays ≡ cancelled_in name moment t.replays
+    → record t { replays = replays; entries = t.entries + 1 } ≡ after_entry moment (replay_cancelled other) now
+cancelled other moment t now name replays same named_so is =
+    ap (λ (rows : List ReplayRow). record t { replays = rows; entries = t.entries + 1 }) (is ∙ ap (λ (n : List ℕ). cancelled_in n moment t.replays) named_so)
+    ∙ ap (after_entry moment (replay_cancelled other)) same
+
+-- an archive of the rule set is one of the archives
+archive_there : (name : List ℕ) (rows : List Archive) (others : List Row) → map name_of rows ≡ map row_name others
+    → is_some (named row_name name others) ≡ true → named name_of name rows ≡ None → ⊥
+archive_there name rows [] same there none = let never : false ≡ true = there in cc
+archive_there name [] (other ∷ others) same there none = absurd (cc)
+archive_there name (a ∷ rows) (other ∷ others) same there none =
+    let first : a.name ≡ other.name = cc in
+    let rest : map name_of rows ≡ map row_name others = cc in
+    (elim (bytes_eq other.name name) as (λ b. bytes_eq other.name name ≡ b → is_some (cond b (Some other) (named row_name name others)) ≡ true → ⊥) [
+      | true ↦ λ e _.
+          let here : bytes_eq a.name name ≡ true = ap (λ n. bytes_eq n name) first ∙ e in
+          let found_so : Some a ≡ None = sym (ap (λ b. cond b (Some a) (named name_of name rows)) here) ∙ none in
+          absurd (cc)
+      | false ↦ λ e more.
+          let here : bytes_eq a.name name ≡ false = ap (λ n. bytes_eq n name) first ∙ e in
+          archive_there name rows others rest more (sym (ap (λ b. cond b (Some a) (named name_of name rows)) here) ∙ none)
+    ]) refl there
+
+pub archive_kept : (t now : Tables) (name : List ℕ) → t ≡ now → has_archive name now.set ≡ true → IsConsistent t → named name_of name t.archives ≡ None → ⊥
+archive_kept t now name same there was none =
+    archive_there name t.archives t.set.archives was.archives (subst (λ (s : Tables). has_archive name s.set ≡ true) (sym same) there) none
+
+pub archive_known : (set : RuleSet) (name : List ℕ) → has_archive name set ≡ true → archive_at name set ≡ None → ⊥
+archive_known set name there none = let never : false ≡ true = sym (ap is_some none) ∙ there in cc
+
+pub new_replay_so : {E : Type 0} (r : Result NewReplay E) (moment : ℕ) (s : StartedReplay) (t : Tables) (row : Row) (archive : Archive) (settings : ReplaySettings)
+    → archive_at s.archive t.set ≡ Some row → named name_of s.archive t.archives ≡ Some archive → settings ≡ settings_of moment row s
+    → IfOk r (λ new. new.row ≡ first_row archive settings (next_number t.replays)) → IfOk r (λ new. new.names ≡ names_of (t.replays ++ new.row ∷ []))
+    → IfOk r (λ new. IsNewReplay moment s t new)
+new_replay_so (Ok new) moment s t row archive settings known kept settings_so is names = record {
+  row = row;
+  known = known;
+  archive = archive;
+  kept = kept;
+  is = is ∙ ap (λ (x : ReplaySettings). first_row archive x (next_number t.replays)) settings_so;
+  names = names;
+}
+new_replay_so (Err e) moment s t row archive settings known kept settings_so is names = tt

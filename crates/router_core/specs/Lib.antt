@@ -11,3 +11,4 @@ pub mod Parts
 pub mod Keeping
 pub mod Ready
 pub mod Steps
+pub mod Replaying

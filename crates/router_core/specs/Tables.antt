@@ -1,23 +1,29 @@
 -- The tables of the router, as a fold over batches.
-use Rattle.std.specs.Prelude.{◌≡◌, ℕ, ◌+◌, ◌^◌, ◌<◌, ◌≤◌, max, Bool, ◌||◌, nat_le, List, [], ◌∷◌, map, length, All}
+use Rattle.std.specs.Prelude.{◌≡◌, ℕ, ◌+◌, ◌^◌, ◌<◌, ◌≤◌, max, Bool, ◌||◌, nat_le, List, [], ◌∷◌, ◌++◌, map, length, Option, Some, None, All}
 use Rattle.json_text.specs.Moment.{IsMoment}
-use Rattle.name_rows.specs.Rows.{placed, without}
+use Rattle.name_rows.specs.Rows.{named, placed, without}
 use Rattle.archive_keep.specs.declared.event_ref.KeptEvent.{KeptEvent}
 use Rattle.archive_keep.specs.Archive.{Archive, empty_archive}
 use Rattle.archive_keep.specs.Archives.{name_of, keeping, kept_in, kept_for, all_purged}
 use Rattle.rule_table.specs.Control.{Control, queue_created, queue_deleted, archive_created, archive_updated, archive_deleted}
-use Rattle.rule_table.specs.RuleSet.{RuleSet, first_set, applied}
+use Rattle.rule_table.specs.RuleSet.{RuleSet, first_set, applied, archive_at}
+use Rattle.rule_table.specs.RuleSet.{Archive as Row}
+use Rattle.replay_run.specs.declared.settings.ReplaySettings.{ReplaySettings}
+use Rattle.replay_run.specs.declared.row.ReplayRow.{ReplayRow}
+use Rattle.replay_run.specs.Replays.{first_row, next_number, stepped_in, cancelled_in}
 use Rattle.rule_table.specs.WellFormed.{most_days}
 use Rattle.delivery_duties.specs.Duties.{Duties, no_duties, with_new_queue, forgotten, with_deleted, added, settled}
-use Rattle.router_core.specs.Batch.{Accepted, Entry, control, accepted, attempt, messages_deleted, Batch}
+use Rattle.router_core.specs.declared.batch.StartedReplay.{StartedReplay}
+use Rattle.router_core.specs.Batch.{Accepted, Entry, control, accepted, attempt, replay_started, replay_stepped, replay_cancelled, messages_deleted, Batch}
 
--- The state of the router: the rule set, the duties and the queue messages, the archives with their events, the numbers of events, of operations and of batches so far, and
--- the moment of the last batch.
+-- The state of the router: the rule set, the duties and the queue messages, the archives with their events, all replays in the order of their
+-- starts, the numbers of events, of operations and of batches so far, and the moment of the last batch.
 -- Shown by: tables router_core.rows: the_first_tables_are_empty.
 pub record Tables : Type 0 where
   pub set : RuleSet
   pub duties : Duties
   pub archives : List Archive
+  pub replays : List ReplayRow
   pub events : ℕ
   pub entries : ℕ
   pub batches : ℕ
@@ -26,7 +32,7 @@ pub record Tables : Type 0 where
 -- The tables before any batch; all numbers and the moment are 0.
 -- Shown by: tables router_core.rows: the_first_tables_are_empty.
 abbrev pub first_tables : Tables
-first_tables = record { set = first_set; duties = no_duties; archives = []; events = 0; entries = 0; batches = 0; moment = 0 }
+first_tables = record { set = first_set; duties = no_duties; archives = []; replays = []; events = 0; entries = 0; batches = 0; moment = 0 }
 
 -- The duties after a configuration change: one that creates a queue adds that queue, one that deletes a queue removes it with its messages,
 -- any other changes nothing.
@@ -56,8 +62,26 @@ abbrev pub kept_by : List (List ℕ) → KeptEvent → List Archive → List Arc
 kept_by [] e archives = archives
 kept_by (name ∷ names) e archives = kept_by names e (kept_in name e archives)
 
+-- What a replay of the archive of this row was asked for, at the moment of its start. Its events go to the archive's bus.
+-- Shown by: proofs alone.
+abbrev pub settings_of : ℕ → Row → StartedReplay → ReplaySettings
+settings_of moment row s =
+    record { name = s.name; archive = s.archive; bus = row.bus; range = s.range; rules = s.rules; started_at = moment }
+
+-- the replays with one more, of the archive that has this row, if there is one
+abbrev pub with_start : ℕ → StartedReplay → Option Row → Option Archive → List ReplayRow → List ReplayRow
+with_start moment s None archive all = all
+with_start moment s (Some row) None all = all
+with_start moment s (Some row) (Some archive) all = all ++ first_row archive (settings_of moment row s) (next_number all) ∷ []
+
+-- The replays after a start at a moment: one more, which selects of what its archive retains then.
+-- Shown by: proofs alone.
+abbrev pub replays_started : ℕ → StartedReplay → Tables → List ReplayRow
+replays_started moment s t = with_start moment s (archive_at s.archive t.set) (named name_of s.archive t.archives) t.replays
+
 -- The tables after one operation (`Entry`) at a moment. The duties of an event are due at once, its archives keep it,
--- and the tables' moment is not before it.
+-- and the tables' moment is not before it. A step makes the duties of an event that was accepted before: it counts no event, and no archive
+-- keeps it.
 -- Shown by: first-run.
 abbrev pub after_entry : ℕ → Entry → Tables → Tables
 after_entry moment (control c) t = record t {
@@ -74,6 +98,10 @@ after_entry moment (accepted e) t = record t {
   moment = max t.moment moment;
 }
 after_entry moment (attempt duty outcome) t = record t { duties = settled duty moment outcome t.duties; entries = t.entries + 1 }
+after_entry moment (replay_started s) t = record t { replays = replays_started moment s t; entries = t.entries + 1 }
+after_entry moment (replay_stepped s) t =
+    record t { duties = added s.duties moment t.duties; replays = stepped_in s.name moment t.replays; entries = t.entries + 1 }
+after_entry moment (replay_cancelled name) t = record t { replays = cancelled_in name moment t.replays; entries = t.entries + 1 }
 after_entry moment (messages_deleted queue through) t = record t { duties = with_deleted queue through t.duties; entries = t.entries + 1 }
 
 -- The tables after operations, in their order.
@@ -133,3 +161,4 @@ pub record IsConsistent (t : Tables) : Type 0 where
   pub created : t.duties.created < number_limit + 2 ^ 20
   pub archives : map name_of t.archives ≡ map (λ archive. archive.name) t.set.archives
   pub kept : All (KeepsUpTo t.events t.moment) t.archives
+  pub starts : length t.replays ≤ t.entries

@@ -6,6 +6,7 @@ use Rattle.router_core.specs.declared.request.Action.{Action}
 use Rattle.router_core.specs.declared.request.Action.TheVariants as action
 use Rattle.router_core.specs.declared.request.Request.{Request}
 use Rattle.router_core.specs.declared.batch.AcceptedEvent.{AcceptedEvent}
+use Rattle.router_core.specs.declared.batch.SteppedReplay.{SteppedReplay}
 use Rattle.router_core.specs.declared.batch.Entry.{Entry}
 use Rattle.router_core.specs.declared.batch.Entry.TheVariants as entry
 use Rattle.router_core.specs.declared.batch.Batch.{Batch}
@@ -56,12 +57,20 @@ request_of r = record { action = action_of r.action; caller = r.caller; reading 
 abbrev pub accepted_of : AcceptedEvent → batch.Accepted
 accepted_of e = record { number = e.number; bus = e.bus; k = e.k; time = e.time; text = e.text; archives = e.archives.items; duties = e.duties.items }
 
+-- What contracts see of the code's `SteppedReplay`, with its duties as a list.
+-- Shown by: proofs alone.
+abbrev pub stepped_of : SteppedReplay → batch.Stepped
+stepped_of s = record { name = s.name; event = s.event; duties = s.duties.items }
+
 -- What contracts see of the code's `Entry`, with the view of what it records.
 -- Shown by: first-run.
 abbrev pub entry_of : Entry → batch.Entry
 entry_of (entry.Control c) = batch.control (control_of c)
 entry_of (entry.Accepted e) = batch.accepted (accepted_of e)
 entry_of (entry.Attempt duty outcome) = batch.attempt duty outcome
+entry_of (entry.ReplayStarted s) = batch.replay_started s
+entry_of (entry.ReplayStepped s) = batch.replay_stepped (stepped_of s)
+entry_of (entry.ReplayCancelled name) = batch.replay_cancelled name
 entry_of (entry.MessagesDeleted queue through) = batch.messages_deleted queue through
 
 -- What contracts see of the code's `Batch`, with its operations as a list.

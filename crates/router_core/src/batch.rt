@@ -1,6 +1,7 @@
 //! Batches: the changes of one turn, as a journal records them.
 use delivery_duties::{NewDuty, Outcome};
 use json_text::Text;
+use replay_run::{RuleNames, TimeRange};
 use rule_table::Control;
 use shared_text::SharedText;
 
@@ -23,6 +24,27 @@ pub struct AcceptedEvent {
     pub duties: Vec<NewDuty>,
 }
 
+/// A replay that starts. Its events go to the bus of its archive.
+#[derive(Drop)]
+pub struct StartedReplay {
+    pub name: Text,
+    /// The name of the archive.
+    pub archive: Text,
+    pub range: TimeRange,
+    /// The rules that see the events; without a filter all do.
+    pub rules: Option<RuleNames>,
+}
+
+/// A step of a replay: one event is repeated.
+#[derive(Drop)]
+pub struct SteppedReplay {
+    pub name: Text,
+    /// The number of the event.
+    pub event: u64,
+    /// One for each target of each rule that matches.
+    pub duties: Vec<NewDuty>,
+}
+
 /// One entry of a batch.
 #[derive(Drop)]
 pub enum Entry {
@@ -32,6 +54,12 @@ pub enum Entry {
     Accepted(AcceptedEvent),
     /// The outcome of an attempt of the duty of this number.
     Attempt { duty: u64, outcome: Outcome },
+    /// A replay that starts.
+    ReplayStarted(StartedReplay),
+    /// A step of a replay.
+    ReplayStepped(SteppedReplay),
+    /// The replay of this name is cancelled.
+    ReplayCancelled { name: Text },
     /// The messages of the queue with numbers up to this one are deleted.
     MessagesDeleted { queue: Text, through: u64 },
 }

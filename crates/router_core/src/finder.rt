@@ -6,7 +6,7 @@ ghost use Rattle.rule_table.specs.RuleSet.{RuleSet as Set, archives_of, rules_of
 ghost use Rattle.router_core.specs.Matching.{AreKeeping, AreMatched};
 
 use crate::matching::{archives_keeping, matched};
-use crate::seen::Matched;
+use crate::seen::{SeenArchives, SeenTargets};
 use json_text::{Json, NoMemory};
 use rule_table::RuleSet;
 use std::alloc::Global;
@@ -18,12 +18,15 @@ pub trait Finder {
     fn rule_set(&self) -> &RuleSet
         ensures { result.now ≡ set_of self.now };
 
-    /// The targets of the rules of the bus that match the event, in the order of the rules, and the archives of the bus
-    /// that keep it, by name; none if there is no such bus.
-    fn matched(&self, alloc: Global, bus: &str, event: &Json) -> Result<Matched, NoMemory>
+    /// The targets of the rules of the bus that match the event, in the order of the rules; none if there is no such bus.
+    fn targets(&self, alloc: Global, bus: &str, event: &Json) -> Result<SeenTargets, NoMemory>
         requires { IsValue (tree_of event.now) }
-        ensures targets { IfOk result (λ m. AreMatched (rules_of bus.now (set_of self.now)) (tree_of event.now) m.targets.items) }
-        ensures archives { IfOk result (λ m. AreKeeping (archives_of bus.now (set_of self.now)) (tree_of event.now) m.archives.items) };
+        ensures { IfOk result (λ targets. AreMatched (rules_of bus.now (set_of self.now)) (tree_of event.now) targets.items) };
+
+    /// The archives of the bus that keep the event, by name.
+    fn archives(&self, alloc: Global, bus: &str, event: &Json) -> Result<SeenArchives, NoMemory>
+        requires { IsValue (tree_of event.now) }
+        ensures { IfOk result (λ archives. AreKeeping (archives_of bus.now (set_of self.now)) (tree_of event.now) archives.items) };
 }
 
 /// Tries each rule in turn.
@@ -34,9 +37,11 @@ impl Finder for RuleSet {
         self
     }
 
-    fn matched(&self, alloc: Global, bus: &str, event: &Json) -> Result<Matched, NoMemory> {
-        let targets = matched(alloc, self, bus, event)?;
-        let archives = archives_keeping(alloc, self, bus, event)?;
-        Ok(Matched { targets, archives })
+    fn targets(&self, alloc: Global, bus: &str, event: &Json) -> Result<SeenTargets, NoMemory> {
+        matched(alloc, self, bus, event)
+    }
+
+    fn archives(&self, alloc: Global, bus: &str, event: &Json) -> Result<SeenArchives, NoMemory> {
+        archives_keeping(alloc, self, bus, event)
     }
 }

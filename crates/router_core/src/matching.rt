@@ -15,8 +15,8 @@ ghost use Rattle.router_core.specs.Matching.{IsSeen, HasValue, IsSeenEvent, AreA
 use crate::finder::Finder;
 use crate::request::{Action, Request};
 use crate::seen::{
-    Matched, Seen, SeenArchive, SeenArchives, SeenEntries, SeenEntry, SeenResult, SeenTarget,
-    SeenTargets, SeenVerdict,
+    Seen, SeenArchive, SeenArchives, SeenEntries, SeenEntry, SeenResult, SeenTarget, SeenTargets,
+    SeenVerdict,
 };
 use bus_policy::{Asker, Verdict, bus_verdict};
 use event_shape::{EntryFault, Event, Unnumbered};
@@ -141,7 +141,8 @@ fn see_event<F: Finder>(
     ensures { IfOk result (λ seen. IsSeenEntry (F.set_of finder.now) caller.now (Ok event.now) seen) }
 {
     let verdict = verdict_on(alloc, finder.rule_set(), caller, event)?;
-    let Matched { targets, archives } = matched_if_allowed(alloc, finder, event, &verdict)?;
+    let targets = targets_if_allowed(alloc, finder, event, &verdict)?;
+    let archives = archives_if_allowed(alloc, finder, event, &verdict)?;
     Ok(SeenEntry {
         verdict,
         targets,
@@ -164,25 +165,39 @@ fn verdict_on(
     }
 }
 
-/// The targets and the archives of an event with this verdict: those that match it if it is allowed, else none.
-fn matched_if_allowed<F: Finder>(
+/// The targets of an event with this verdict: those of the rules that match it if it is allowed, else none.
+fn targets_if_allowed<F: Finder>(
     alloc: Global,
     finder: &F,
     event: &Unnumbered,
     verdict: &SeenVerdict,
-) -> Result<Matched, NoMemory>
-    ensures targets { IfOk result (λ m. AreTargetsOf (F.set_of finder.now) (Ok event.now) verdict.now m.targets.items) }
-    ensures archives { IfOk result (λ m. AreArchivesOf (F.set_of finder.now) (Ok event.now) verdict.now m.archives.items) }
+) -> Result<SeenTargets, NoMemory>
+    ensures { IfOk result (λ targets. AreTargetsOf (F.set_of finder.now) (Ok event.now) verdict.now targets.items) }
 {
     match verdict {
-        SeenVerdict::Allowed => finder.matched(alloc, event.bus(), event.tree()),
+        SeenVerdict::Allowed => finder.targets(alloc, event.bus(), event.tree()),
         SeenVerdict::Fault(_)
         | SeenVerdict::NoBus
         | SeenVerdict::DeniedBy(_)
-        | SeenVerdict::NotAllowed => Ok(Matched {
-            targets: VecDeque::new(alloc),
-            archives: VecDeque::new(alloc),
-        }),
+        | SeenVerdict::NotAllowed => Ok(VecDeque::new(alloc)),
+    }
+}
+
+/// The archives of an event with this verdict: those that keep it if it is allowed, else none.
+fn archives_if_allowed<F: Finder>(
+    alloc: Global,
+    finder: &F,
+    event: &Unnumbered,
+    verdict: &SeenVerdict,
+) -> Result<SeenArchives, NoMemory>
+    ensures { IfOk result (λ archives. AreArchivesOf (F.set_of finder.now) (Ok event.now) verdict.now archives.items) }
+{
+    match verdict {
+        SeenVerdict::Allowed => finder.archives(alloc, event.bus(), event.tree()),
+        SeenVerdict::Fault(_)
+        | SeenVerdict::NoBus
+        | SeenVerdict::DeniedBy(_)
+        | SeenVerdict::NotAllowed => Ok(VecDeque::new(alloc)),
     }
 }
 
@@ -210,10 +225,7 @@ pub fn see_event_with<F: Finder>(
     ensures { IfOk result (λ seen. IsSeenEvent (F.set_of finder.now) bus.now (event_tree event.now (option_copied replay.entry)) seen.0 seen.1.items) }
 {
     let tree = event.tree(alloc, replay)?;
-    let Matched {
-        targets,
-        archives: _archives,
-    } = finder.matched(alloc, bus, &tree)?;
+    let targets = finder.targets(alloc, bus, &tree)?;
     Ok((finder.rule_set().control_count(), targets))
 }
 

@@ -4,26 +4,30 @@ ghost use Rattle.rule_table.specs.Control.{Control as Change};
 ghost use Rattle.rule_table.specs.RuleSet.{RuleSet as Set};
 ghost use Rattle.rule_table.specs.Refusal.{IsAllowed, refusal};
 ghost use Rattle.rule_table.specs.View.{control_of};
-ghost use Rattle.router_core.specs.Batch.{control as change, accepted};
-ghost use Rattle.router_core.specs.View.{accepted_of, entry_of};
+ghost use Rattle.router_core.specs.Batch.{control as change, accepted, replay_started, replay_stepped};
+ghost use Rattle.router_core.specs.Admitted.{IsStartAdmitted};
+ghost use Rattle.router_core.specs.View.{accepted_of, entry_of, stepped_of};
 ghost use Rattle.archive_keep.specs.Archive.{Archive as ArchiveView};
 ghost use Rattle.archive_keep.specs.Kept.{IsTextOfEvent};
-ghost use Rattle.router_core.specs.Ready.{IsPartOf, IsOneChange, HasPlace, HasArchive, AreKeptAs};
+ghost use Rattle.router_core.specs.Ready.{IsPartOf, IsMadeOn, IsOneChange, HasPlace, HasArchive, AreKeptAs};
 ghost use Rattle.router_core.specs.declared.ready.Part.{Part as PartView};
 ghost use Rattle.router_core.specs.declared.ready.Part.TheVariants.{Configuration};
 
-use crate::batch::{AcceptedEvent, Batch, Entry};
+use crate::batch::{AcceptedEvent, Batch, Entry, StartedReplay, SteppedReplay};
+use crate::tables::Tables;
 use archive_keep::{Archive, EventRef, KeptEvent};
 use delivery_duties::{NewDuties, NewDuty};
 use delivery_queues::NewQueue;
 use json_text::NoMemory;
+use replay_run::NewReplay;
 use rule_table::{Control, ControlFault, RuleSet};
 use std::alloc::Global;
 use std::collections::{LinkedList, VecDeque};
 
 /// What applying one entry of a batch needs. All its memory is allocated. A part is made from its entry, and of a change also from the rule
-/// set before it; nothing else of the tables is in it. So a journal that reads batches back can make their parts again, each on the rule
-/// set after the entries before it. An attempt has no part: `Tables::finish` applies it with its claim, and `Tables::settle_at` by its duty's
+/// set before it; nothing else of the tables is in it, but that a replay which starts has its selection of an archive, its number, and the
+/// names of all replays. So a journal that reads batches back can make their parts again, each on the rule set after the entries before
+/// it, and a start's on the tables after the batches before its own. An attempt has no part: `Tables::finish` applies it with its claim, and `Tables::settle_at` by its duty's
 /// number.
 #[derive(Drop)]
 pub enum Part {
@@ -38,6 +42,16 @@ pub enum Part {
         duties: NewDuties,
         kept: LinkedList<EventRef>,
     },
+    /// Of a replay that starts: the replay, with its selection.
+    Start {
+        new_replay: NewReplay,
+    },
+    /// Of a replay's step: the rows of its duties.
+    Step {
+        duties: NewDuties,
+    },
+    /// Of a cancelled replay.
+    Cancellation,
     /// Of deleted messages.
     Nothing,
 }
@@ -81,6 +95,29 @@ impl Part {
         let kept = kept(alloc, event, moment)?;
         Ok(Part::Event { duties, kept })
     }
+
+    /// The part of the start in a batch of this moment, made on the archives and the replays of these tables.
+    pub fn of_start(
+        alloc: Global,
+        tables: &Tables,
+        start: &StartedReplay,
+        moment: u64,
+    ) -> Result<Part, NoMemory>
+        requires { IsStartAdmitted tables.now start.now }
+        ensures part { IfOk result (λ part. (set : Set) → IsPartOf moment set (replay_started start.now) part) }
+        ensures made { IfOk result (λ part. IsMadeOn moment tables.now (replay_started start.now) part) }
+    {
+        let new_replay = tables.new_replay(alloc, start, moment)?;
+        Ok(Part::Start { new_replay })
+    }
+
+    /// The part of the step. Its duties share their texts and their targets' rows with those of the step.
+    pub fn of_step(alloc: Global, step: &SteppedReplay) -> Result<Part, NoMemory>
+        ensures { IfOk result (λ part. (moment : ℕ) (set : Set) → IsPartOf moment set (replay_stepped (stepped_of step.now)) part) }
+    {
+        let duties = shared(alloc, &step.duties)?;
+        Ok(Part::Step { duties })
+    }
 }
 
 impl Ready {
@@ -121,7 +158,12 @@ fn only_change(entries: &[Entry]) -> Option<&Control>
 {
     match entries {
         [Entry::Control(control)] => Some(control),
-        [Entry::Accepted(_)] | [Entry::Attempt { .. }] | [Entry::MessagesDeleted { .. }] => None,
+        [Entry::Accepted(_)]
+        | [Entry::Attempt { .. }]
+        | [Entry::ReplayStarted(_)]
+        | [Entry::ReplayStepped(_)]
+        | [Entry::ReplayCancelled { .. }]
+        | [Entry::MessagesDeleted { .. }] => None,
         [] | [_, _, ..] => None,
     }
 }
@@ -134,7 +176,12 @@ fn first_set(parts: &VecDeque<Part>) -> Option<&RuleSet>
 {
     match parts.front() {
         Some(Part::Configuration { set, .. }) => Some(set),
-        Some(Part::Event { .. }) | Some(Part::Nothing) | None => None,
+        Some(Part::Event { .. })
+        | Some(Part::Start { .. })
+        | Some(Part::Step { .. })
+        | Some(Part::Cancellation)
+        | Some(Part::Nothing)
+        | None => None,
     }
 }
 

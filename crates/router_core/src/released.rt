@@ -3,6 +3,7 @@ use crate::batch::Batch;
 use crate::ready::Part;
 use archive_keep::{Archive, EventRef};
 use delivery_queues::{DeletedMessages, RemovedQueue};
+use replay_run::{Rest, Stepped};
 use rule_table::RuleSet;
 use shared_text::{SharedRow, SharedText};
 use std::collections::{LinkedList, VecDeque};
@@ -25,6 +26,10 @@ pub struct Released {
     pub(crate) expired: Option<LinkedList<EventRef>>,
     /// What an update of an archive dropped.
     pub(crate) dropped: Option<LinkedList<EventRef>>,
+    /// The event that a step repeated, and the memory of the replay's list if the step completed it.
+    pub(crate) stepped: Option<Stepped>,
+    /// What a cancelled replay had left.
+    pub(crate) rest: Option<Rest>,
     /// The row that the errand shared with its duty, if the batch records an attempt.
     pub(crate) target: Option<SharedRow>,
     /// The text that the errand shared with its duty, if the batch records an attempt.
@@ -43,6 +48,8 @@ impl Released {
             archive: None,
             expired: None,
             dropped: None,
+            stepped: None,
+            rest: None,
             target: None,
             text: None,
         }

@@ -41,13 +41,6 @@ pub type SeenTargets = VecDeque<SeenTarget>;
 /// Archives, in the byte order of their names.
 pub type SeenArchives = VecDeque<SeenArchive>;
 
-/// What matching finds of one event.
-#[derive(Debug, Drop)]
-pub struct Matched {
-    pub targets: SeenTargets,
-    pub archives: SeenArchives,
-}
-
 /// The result of matching one entry of a PutEvents.
 #[derive(Debug, Drop)]
 pub struct SeenEntry {

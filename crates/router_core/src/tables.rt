@@ -1,23 +1,28 @@
 //! The router's tables, and the calls that change them.
-ghost use Rattle.std.specs.Prelude.{◌≡◌, ◌+◌, ◌*◌, ◌^◌, ◌<◌, ◌≤◌, ◌⊎◌, ℕ, List, IfOk, IfSome, IfNone, OnErr, Some, true, false, length};
+ghost use Rattle.std.specs.Prelude.{◌≡◌, ◌+◌, ◌*◌, ◌^◌, ◌<◌, ◌≤◌, ◌⊎◌, ℕ, List, IfOk, IfSome, IfNone, OnErr, Some, None, true, false, length};
 ghost use Rattle.std.specs.Option.{option_copied};
 ghost use Rattle.json_text.specs.Moment.{IsMoment};
 ghost use Rattle.delivery_duties.specs.declared.duty.DutyRow.{DutyRow};
 ghost use Rattle.delivery_duties.specs.declared.outcome.Outcome.{Outcome as Ended};
 ghost use Rattle.delivery_queues.specs.Queues.{message_count};
 ghost use Rattle.delivery_duties.specs.Duties.{NoneDue, IsOut, pending_row};
-ghost use Rattle.router_core.specs.Batch.{Accepted as Event, accepted, control as change, messages_deleted};
+ghost use Rattle.router_core.specs.Batch.{Accepted as Event, Stepped as Step, accepted, control as change, messages_deleted};
+ghost use Rattle.router_core.specs.Batch.{replay_started, replay_stepped, replay_cancelled};
+ghost use Rattle.router_core.specs.declared.batch.StartedReplay.{StartedReplay as Start};
 ghost use Rattle.router_core.specs.View.{batch_of, entry_of};
-ghost use Rattle.router_core.specs.Tables.{first_tables, after_entry, after_batch, is_full, number_limit, IsConsistent};
-ghost use Rattle.router_core.specs.Admitted.{IsAdmitted, IsEntryAdmitted};
-ghost use Rattle.router_core.specs.Ready.{IsPartOf, IsReadyFor};
-ghost use Rattle.router_core.specs.declared.ready.Part.TheVariants.{Configuration, Event as EventPart};
+ghost use Rattle.router_core.specs.Tables.{first_tables, after_entry, after_batch, is_full, number_limit, settings_of, IsConsistent};
+ghost use Rattle.router_core.specs.Admitted.{IsAdmitted, IsEntryAdmitted, IsStartAdmitted};
+ghost use Rattle.router_core.specs.Ready.{IsPartOf, IsMadeOn, IsNewReplay, IsReadyFor};
+ghost use Rattle.router_core.specs.declared.ready.Part.TheVariants.{Configuration, Event as EventPart, Start as StartPart, Step as StepPart};
+ghost use Rattle.name_rows.specs.Rows.{named};
+ghost use Rattle.archive_keep.specs.Archives.{name_of};
+ghost use Rattle.rule_table.specs.RuleSet.{archive_at, has_archive};
 ghost use Rattle.rule_table.specs.Control.{Control as Change};
 ghost use Rattle.router_core.specs.Parts.{deleted_by, with_created, with_forgotten};
 ghost use Rattle.rule_table.specs.View.{control_of};
 ghost use Rattle.router_core.specs.Steps.{IsErrandOf, IsClaimed, IsRecordedAs, record_of, putting_back, fate_after};
 
-use crate::batch::{Batch, Entry};
+use crate::batch::{Batch, Entry, StartedReplay};
 use crate::errand::Errand;
 use crate::keeping::{change_archives, keep_each, purge};
 use crate::ready::{Part, Ready};
@@ -26,8 +31,9 @@ use archive_keep::{Archive, Archives, EventRef};
 use delivery_duties::{Duties, Fate, NewDuties, Outcome};
 use delivery_queues::{NewQueue, RemovedQueue};
 use event_shape::queue_of;
-use json_text::NoMemory;
-use rule_table::{Control, RuleSet};
+use json_text::{NoMemory, Text};
+use replay_run::{NewReplay, ReplaySettings, Replays, RuleNames};
+use rule_table::{ArchiveRow, Control, RuleSet};
 use shared_text::{SharedRow, SharedText};
 use std::alloc::Global;
 use std::collections::LinkedList;
@@ -37,13 +43,14 @@ use std::mem;
 /// No further batch is made once there are this many entries or duties.
 const NUMBER_LIMIT: u64 = 1 << 48;
 
-/// The rule set, the duties and the queues' messages, the archives with their events, and the numbers of events, entries and batches so
-/// far.
+/// The rule set, the duties and the queues' messages, the archives with their events, the replays, and the numbers of events, entries and
+/// batches so far.
 #[derive(Drop)]
 pub struct Tables {
     set: RuleSet,
     duties: Duties,
     archives: Archives,
+    replays: Replays,
     events: u64,
     entries: u64,
     batches: u64,
@@ -59,6 +66,7 @@ impl Model for Tables {
       set = t.set;
       duties = t.duties;
       archives = t.archives;
+      replays = t.replays;
       events = t.events;
       entries = t.entries;
       batches = t.batches;
@@ -69,6 +77,7 @@ impl Model for Tables {
       set = t.set;
       duties = t.duties;
       archives = t.archives;
+      replays = t.replays;
       events = t.events;
       entries = t.entries;
       batches = t.batches;
@@ -85,6 +94,7 @@ impl Tables {
             set: RuleSet::first(alloc)?,
             duties: Duties::new(alloc)?,
             archives: Archives::new(alloc)?,
+            replays: Replays::new(alloc)?,
             events: 0,
             entries: 0,
             batches: 0,
@@ -119,6 +129,13 @@ impl Tables {
         ensures { result.now ≡ self.now.archives }
     {
         &self.archives
+    }
+
+    /// All replays.
+    pub fn replays(&self) -> &Replays
+        ensures { result.now ≡ self.now.replays }
+    {
+        &self.replays
     }
 
     /// The number of events accepted so far.
@@ -185,6 +202,7 @@ impl Tables {
     /// Applies one entry, whose part this is. `released` receives what it leaves over.
     fn join(&mut self, entry: &Entry, part: Part, moment: u64, released: &mut Released)
         requires part { IsPartOf moment self.old.set (entry_of entry.now) part }
+        requires made { IsMadeOn moment self.old (entry_of entry.now) part }
         requires admitted { IsEntryAdmitted moment (entry_of entry.now) self.old }
         requires moment { IsMoment moment }
         requires later { self.old.moment ≤ moment }
@@ -200,6 +218,9 @@ impl Tables {
                 new_archive,
             } => self.configure(entry, set, new_queue, new_archive, moment, released),
             Part::Event { duties, kept } => self.publish(entry, duties, kept, moment),
+            Part::Start { new_replay } => self.start_replay(entry, new_replay, moment),
+            Part::Step { duties } => self.step_replay(entry, duties, moment, released),
+            Part::Cancellation => self.cancel_replay(entry, moment, released),
             Part::Nothing => self.delete_messages(entry, released),
         }
     }
@@ -230,8 +251,12 @@ impl Tables {
                 change_archives(&mut self.archives, control, new_archive, moment, released);
                 self.entries += 1;
             }
-            Entry::Accepted(_) | Entry::Attempt { .. } | Entry::MessagesDeleted { .. } =>
-                unreachable!(),
+            Entry::Accepted(_)
+            | Entry::Attempt { .. }
+            | Entry::ReplayStarted(_)
+            | Entry::ReplayStepped(_)
+            | Entry::ReplayCancelled { .. }
+            | Entry::MessagesDeleted { .. } => unreachable!(),
         }
     }
 
@@ -255,8 +280,96 @@ impl Tables {
                 self.entries += 1;
                 self.moment = moment;
             }
-            Entry::Control(_) | Entry::Attempt { .. } | Entry::MessagesDeleted { .. } =>
-                unreachable!(),
+            Entry::Control(_)
+            | Entry::Attempt { .. }
+            | Entry::ReplayStarted(_)
+            | Entry::ReplayStepped(_)
+            | Entry::ReplayCancelled { .. }
+            | Entry::MessagesDeleted { .. } => unreachable!(),
+        }
+    }
+
+    /// What the start adds in a batch of this moment: a replay of what its archive retains then.
+    pub(crate) fn new_replay(
+        &self,
+        alloc: Global,
+        start: &StartedReplay,
+        moment: u64,
+    ) -> Result<NewReplay, NoMemory>
+        requires { IsStartAdmitted self.now start.now }
+        ensures { IfOk result (λ new. IsNewReplay moment start.now self.now new) }
+    {
+        let row = row_in(&self.set, start.archive.as_str());
+        let archive = archive_in(&self.archives, start.archive.as_str());
+        let settings = settings_of(alloc, row, start, moment)?;
+        self.replays.prepare(alloc, archive, settings)
+    }
+
+    /// Applies the start that is this entry.
+    fn start_replay(&mut self, entry: &Entry, new_replay: NewReplay, moment: u64)
+        requires start { (s : Start) × (entry_of entry.now ≡ replay_started s) }
+        requires made { IsMadeOn moment self.old (entry_of entry.now) (StartPart new_replay) }
+        requires admitted { IsEntryAdmitted moment (entry_of entry.now) self.old }
+        requires entries { self.old.entries + 1 < number_limit + 2 ^ 20 }
+        ensures started { self.new ≡ after_entry moment (entry_of entry.now) self.old }
+        ensures created { self.new.duties.created ≡ self.old.duties.created }
+    {
+        let _of_a_batch = moment;
+        let _the_start = entry;
+        self.replays.start(new_replay);
+        self.entries += 1;
+    }
+
+    /// Applies the step that is this entry, whose duties these are. `released` receives the event, and the list of a replay that it completes.
+    fn step_replay(
+        &mut self,
+        entry: &Entry,
+        duties: NewDuties,
+        moment: u64,
+        released: &mut Released,
+    )
+        requires step { (s : Step) × (entry_of entry.now ≡ replay_stepped s) }
+        requires part { IsPartOf moment self.old.set (entry_of entry.now) (StepPart duties) }
+        requires admitted { IsEntryAdmitted moment (entry_of entry.now) self.old }
+        requires moment { IsMoment moment }
+        requires entries { self.old.entries + 1 < number_limit + 2 ^ 20 }
+        requires created { self.old.duties.created + length duties < number_limit + 2 ^ 20 }
+        ensures stepped { self.new ≡ after_entry moment (entry_of entry.now) self.old }
+        ensures created { self.new.duties.created ≡ self.old.duties.created + length duties }
+    {
+        match entry {
+            Entry::ReplayStepped(step) => {
+                self.duties.add(duties, moment);
+                released.stepped = self.replays.step(step.name.as_str(), moment);
+                self.entries += 1;
+            }
+            Entry::Control(_)
+            | Entry::Accepted(_)
+            | Entry::Attempt { .. }
+            | Entry::ReplayStarted(_)
+            | Entry::ReplayCancelled { .. }
+            | Entry::MessagesDeleted { .. } => unreachable!(),
+        }
+    }
+
+    /// Applies the cancellation that is this entry. `released` receives what the replay has not repeated.
+    fn cancel_replay(&mut self, entry: &Entry, moment: u64, released: &mut Released)
+        requires cancellation { (name : List ℕ) × (entry_of entry.now ≡ replay_cancelled name) }
+        requires entries { self.old.entries + 1 < number_limit + 2 ^ 20 }
+        ensures cancelled { self.new ≡ after_entry moment (entry_of entry.now) self.old }
+        ensures created { self.new.duties.created ≡ self.old.duties.created }
+    {
+        match entry {
+            Entry::ReplayCancelled { name } => {
+                released.rest = self.replays.cancel(name.as_str(), moment);
+                self.entries += 1;
+            }
+            Entry::Control(_)
+            | Entry::Accepted(_)
+            | Entry::Attempt { .. }
+            | Entry::ReplayStarted(_)
+            | Entry::ReplayStepped(_)
+            | Entry::MessagesDeleted { .. } => unreachable!(),
         }
     }
 
@@ -272,7 +385,12 @@ impl Tables {
                 released.messages = self.duties.delete_through(queue.as_str(), *through);
                 self.entries += 1;
             }
-            Entry::Control(_) | Entry::Accepted(_) | Entry::Attempt { .. } => unreachable!(),
+            Entry::Control(_)
+            | Entry::Accepted(_)
+            | Entry::Attempt { .. }
+            | Entry::ReplayStarted(_)
+            | Entry::ReplayStepped(_)
+            | Entry::ReplayCancelled { .. } => unreachable!(),
         }
     }
 
@@ -450,6 +568,72 @@ struct Shared {
     target: SharedRow,
     text: SharedText,
     accepted: u64,
+}
+
+/// What the rule set has of the archive of this name, which is there.
+fn row_in<'a>(set: &'a RuleSet, name: &str) -> &'a ArchiveRow
+    requires { has_archive name.now set.now ≡ true }
+    ensures { archive_at name.now set.now ≡ Some result.now }
+{
+    match set.archive(name) {
+        Some(row) => row,
+        None => unreachable!(),
+    }
+}
+
+/// The archive of this name, which is there.
+fn archive_in<'a>(archives: &'a Archives, name: &str) -> &'a Archive
+    requires { ¬ (named name_of name.now archives.now ≡ None) }
+    ensures { named name_of name.now archives.now ≡ Some result.now }
+{
+    match archives.find(name) {
+        Some(archive) => archive,
+        None => unreachable!(),
+    }
+}
+
+/// What a replay of the archive of this row is asked for, at this moment.
+fn settings_of(
+    alloc: Global,
+    row: &ArchiveRow,
+    start: &StartedReplay,
+    moment: u64,
+) -> Result<ReplaySettings, NoMemory>
+    ensures { IfOk result (λ settings. settings ≡ settings_of moment row.now start.now) }
+{
+    let name = start.name.copy(alloc)?;
+    let archive = start.archive.copy(alloc)?;
+    let bus = Text::from_str(alloc, row.bus())?;
+    let rules = copied(alloc, &start.rules)?;
+    Ok(ReplaySettings {
+        name,
+        archive,
+        bus,
+        range: start.range,
+        rules,
+        started_at: moment,
+    })
+}
+
+/// The same filter, if there is one.
+fn copied(alloc: Global, rules: &Option<RuleNames>) -> Result<Option<RuleNames>, NoMemory>
+    ensures { IfOk result (λ same. same ≡ rules.now) }
+{
+    match rules {
+        Some(rules) => Ok(Some(RuleNames::new(copies(alloc, rules.names())?))),
+        None => Ok(None),
+    }
+}
+
+/// The same names.
+fn copies(alloc: Global, names: &[Text]) -> Result<Vec<Text>, NoMemory>
+    ensures { IfOk result (λ same. same.items ≡ names.now) }
+{
+    let mut same = Vec::with_capacity(alloc, names.len())?;
+    for name in names {
+        same.push(name.copy(alloc)?)?;
+    }
+    Ok(same)
 }
 
 /// Creates the queue, if there is one to create.

@@ -4,10 +4,10 @@ use Rattle.std.proofs.Common.{◌≡◌, ℕ, List, [], ◌∷◌, ◌++◌, ref
 use Rattle.std.specs.Prelude.{◌||◌, not, ◌==◌, length}
 use Rattle.std.specs.List.{list_any}
 use Rattle.std.specs.Option.{option_map}
-use Rattle.rule_table.specs.Control.{Control, queue_deleted}
+use Rattle.rule_table.specs.Control.{Control, bus_deleted, queue_deleted}
 use Rattle.delivery_duties.specs.Duties.{Duties, is_for_queue, names_queue}
 use Rattle.delivery_queues.specs.Queues.{messages_of}
-use Rattle.router_core.specs.Batch.{Entry, control, accepted, attempt, messages_deleted, Batch}
+use Rattle.router_core.specs.Batch.{Entry, control, accepted, attempt, replay_started, replay_stepped, replay_cancelled, messages_deleted, Batch}
 use Rattle.router_core.specs.Tables.{Tables, after_entry, tables_after}
 use Rattle.router_core.specs.Admitted.{IsEntryAdmitted, AreAdmitted, IsAdmitted, IsUnnamed}
 use Rattle.duty_journal.specs.Batch.{IsReadable}
@@ -23,12 +23,13 @@ any_freed queue ((n, row) ∷ rows) = ap (λ b. is_for_queue queue row || b) (an
 names_freed : (queue : List ℕ) (d : Duties) → names_queue queue (free_duties d) ≡ names_queue queue d
 names_freed queue d = ap (λ b. b || not (length (messages_of queue d.queues) == 0)) (any_freed queue d.pending)
 
-unnamed_freed : (c : Control) (d : Duties) → IsUnnamed c d → IsUnnamed c (free_duties d)
-unnamed_freed (queue_deleted name) d is = names_freed name d ∙ is
-unnamed_freed _ d is = tt
+unnamed_freed : (c : Control) (t : Tables) → IsUnnamed c t → IsUnnamed c (without_claims t)
+unnamed_freed (queue_deleted name) t is = names_freed name t.duties ∙ is
+unnamed_freed (bus_deleted name) t is = is
+unnamed_freed _ t is = tt
 
 entry_admitted : (moment : ℕ) (e : Entry) (t : Tables) → IsEntryAdmitted moment e t → IsEntryAdmitted moment e (without_claims t)
-entry_admitted moment (control c) t (form, allowed, unnamed) = (form, allowed, unnamed_freed c t.duties unnamed)
+entry_admitted moment (control c) t (form, allowed, unnamed) = (form, allowed, unnamed_freed c t unnamed)
 entry_admitted moment (accepted e) t is = record {
   number = is.number;
   bus = is.bus;
@@ -46,6 +47,27 @@ entry_admitted moment (attempt duty outcome) t is = record {
   due = is.due;
   queue = is.queue;
 }
+entry_admitted moment (replay_started s) t is = record {
+  name = is.name;
+  new = is.new;
+  archive = is.archive;
+  start = is.start;
+  end = is.end;
+  order = is.order;
+  few = is.few;
+  rules = is.rules;
+}
+entry_admitted moment (replay_stepped s) t is = record {
+  row = is.row;
+  runs = is.runs;
+  event = is.event;
+  rest = is.rest;
+  next = is.next;
+  number = is.number;
+  few = is.few;
+  short = is.short;
+}
+entry_admitted moment (replay_cancelled name) t is = is
 entry_admitted moment (messages_deleted queue through) t is = record { there = is.there; bounded = is.bounded; some = is.some }
 
 entries_admitted : (moment : ℕ) (es : List Entry) (t : Tables) → AreAdmitted moment es t → AreAdmitted moment es (without_claims t)

@@ -13,7 +13,7 @@ use Rattle.delivery_duties.specs.declared.verdict.Verdict.TheVariants.{Deliver, 
 use Rattle.delivery_duties.specs.Retry.{Attempt, begun, retried, too_long, verdict_of, dead_letter_queue}
 use Rattle.delivery_duties.specs.Duties.{Duties, pending_row, replaced, failed, has_dead_letter_queue, added_one, added, marked_row, settled_by, settled_row}
 use Rattle.delivery_duties.specs.Duties.{settled, attempt_of}
-use Rattle.router_core.specs.Batch.{Batch, Entry, control, accepted, attempt, messages_deleted}
+use Rattle.router_core.specs.Batch.{Batch, Entry, control, accepted, attempt, replay_started, replay_stepped, replay_cancelled, messages_deleted}
 use Rattle.router_core.specs.Tables.{Tables, first_tables, duties_after, after_entry, after_entries, purged_at, after_batch, tables_after}
 use Rattle.router_history.specs.History.{Ask, opens, asked, claims, records, puts_back, breaks, found_by, Turn, State, after_change, after_turn, state_after, state_of}
 use Rattle.router_history.specs.History.{IsTurnFor, AreTurnsFrom, batches_of, with_written, begun_with, after_all, after_written}
@@ -133,6 +133,9 @@ entry_freed moment (control c) t = ap (λ d. record (after_entry moment (control
 entry_freed moment (accepted e) t = ap (λ d. record (after_entry moment (accepted e) t) { duties = d }) (added_freed e.duties moment t.duties)
 entry_freed moment (attempt duty outcome) t =
     ap (λ d. record (after_entry moment (attempt duty outcome) t) { duties = d }) (settled_freed duty moment outcome t.duties)
+entry_freed moment (replay_started s) t = refl
+entry_freed moment (replay_stepped s) t = ap (λ d. record (after_entry moment (replay_stepped s) t) { duties = d }) (added_freed s.duties moment t.duties)
+entry_freed moment (replay_cancelled name) t = refl
 entry_freed moment (messages_deleted queue through) t = refl
 
 entries_freed : (moment : ℕ) (es : List Entry) (t : Tables) → without_claims (after_entries moment es t) ≡ after_entries moment es (without_claims t)

@@ -13,7 +13,7 @@ use Rattle.delivery_duties.specs.declared.verdict.Verdict.TheVariants.{Deliver, 
 use Rattle.delivery_duties.specs.Retry.{Attempt, begun, retried, too_long, verdict_of, dead_letter_queue}
 use Rattle.delivery_duties.specs.Duties.{Duties, pending_row, replaced, failed, has_dead_letter_queue, added_one, added, marked_row}
 use Rattle.delivery_duties.specs.Duties.{settled_by, settled_row, attempt_of}
-use Rattle.router_core.specs.Batch.{Batch, Entry, control, accepted, attempt, messages_deleted}
+use Rattle.router_core.specs.Batch.{Batch, Entry, control, accepted, attempt, replay_started, replay_stepped, replay_cancelled, messages_deleted}
 use Rattle.router_core.specs.Tables.{Tables, duties_after, after_entry, after_entries}
 use Rattle.router_core.specs.Request.{Action}
 use Rattle.router_calls.proofs.FormLemmas.{IsOf, AreOf, WritesOf}
@@ -94,6 +94,9 @@ entry_keeps : (before : Tables) (action : Action) (moment : ℕ) (e : Entry) (ke
 entry_keeps before action moment (control c) key t is known = changed c key t.duties known
 entry_keeps before action moment (accepted e) key t is known = all_added e.duties moment key t.duties known
 entry_keeps before action moment (attempt duty outcome) key t is known = absurd is
+entry_keeps before action moment (replay_started s) key t is known = absurd is
+entry_keeps before action moment (replay_stepped s) key t is known = absurd is
+entry_keeps before action moment (replay_cancelled name) key t is known = absurd is
 entry_keeps before action moment (messages_deleted queue through) key t is known = (refl, known)
 
 entries_keep : (before : Tables) (action : Action) (moment : ℕ) (es : List Entry) (key : ℕ) (t : Tables) → AreOf before action es → key ≤ t.duties.created

@@ -113,6 +113,9 @@ others_names t action [] other of = tt
 others_names t action (batch.control c ∷ es) other of = (tt, others_names t action es other of.1)
 others_names t action (batch.accepted e ∷ es) other of = absurd (other of.0)
 others_names t action (batch.attempt duty outcome ∷ es) other of = absurd of.0
+others_names t action (batch.replay_started s ∷ es) other of = absurd of.0
+others_names t action (batch.replay_stepped s ∷ es) other of = absurd of.0
+others_names t action (batch.replay_cancelled name ∷ es) other of = absurd of.0
 others_names t action (batch.messages_deleted queue through ∷ es) other of = (tt, others_names t action es other of.1)
 
 -- the batch of an answer, if it has one

@@ -17,7 +17,7 @@ use Rattle.delivery_duties.specs.Retry.{Attempt, begun, too_long, verdict_of, de
 use Rattle.delivery_duties.specs.Duties.{Duties, IsOrdered, pending_row, replaced, failed, has_dead_letter_queue, added_one, added, marked_row, claimed}
 use Rattle.delivery_duties.specs.Duties.{unclaimed, settled_by, settled_row, attempt_of}
 use Rattle.delivery_duties.proofs.ClaimLemmas.{put_back}
-use Rattle.router_core.specs.Batch.{Entry, control, accepted, attempt, messages_deleted}
+use Rattle.router_core.specs.Batch.{Entry, control, accepted, attempt, replay_started, replay_stepped, replay_cancelled, messages_deleted}
 use Rattle.router_core.specs.Tables.{Tables, duties_after, after_entry, after_entries}
 
 -- each row is under its own number
@@ -183,6 +183,9 @@ entry_numbered : (moment : ℕ) (e : Entry) (t : Tables) → AreNumbered t.dutie
 entry_numbered moment (control c) t h = control_numbered c t.duties h
 entry_numbered moment (accepted e) t h = added_numbered e.duties moment t.duties h
 entry_numbered moment (attempt duty outcome) t h = settled_there (pending_row duty t.duties) duty moment outcome t.duties refl h
+entry_numbered moment (replay_started s) t h = h
+entry_numbered moment (replay_stepped s) t h = added_numbered s.duties moment t.duties h
+entry_numbered moment (replay_cancelled name) t h = h
 entry_numbered moment (messages_deleted queue through) t h = h
 
 pub entries_numbered : (moment : ℕ) (es : List Entry) (t : Tables) → AreNumbered t.duties → AreNumbered (after_entries moment es t).duties

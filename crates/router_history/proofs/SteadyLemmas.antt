@@ -8,7 +8,7 @@ use Rattle.rule_table.specs.Control.{Control, bus_created}
 use Rattle.rule_table.specs.RuleSet.{RuleSet, applied, applied_all}
 use Rattle.delivery_duties.specs.declared.duty.DutyRow.{DutyRow}
 use Rattle.delivery_duties.specs.Duties.{Duties, pending_row, IsNext}
-use Rattle.router_core.specs.Batch.{Batch, Entry, control, accepted, attempt, messages_deleted}
+use Rattle.router_core.specs.Batch.{Batch, Entry, control, accepted, attempt, replay_started, replay_stepped, replay_cancelled, messages_deleted}
 use Rattle.router_core.specs.Tables.{Tables, first_tables, after_entry, after_entries, moment_at}
 use Rattle.router_core.specs.Request.{Request}
 use Rattle.router_calls.proofs.FormLemmas.{request_form}
@@ -157,6 +157,9 @@ set_after moment [] t = refl
 set_after moment (control c ∷ es) t = set_after moment es (after_entry moment (control c) t)
 set_after moment (accepted e ∷ es) t = set_after moment es (after_entry moment (accepted e) t)
 set_after moment (attempt duty outcome ∷ es) t = set_after moment es (after_entry moment (attempt duty outcome) t)
+set_after moment (replay_started s ∷ es) t = set_after moment es (after_entry moment (replay_started s) t)
+set_after moment (replay_stepped s ∷ es) t = set_after moment es (after_entry moment (replay_stepped s) t)
+set_after moment (replay_cancelled name ∷ es) t = set_after moment es (after_entry moment (replay_cancelled name) t)
 set_after moment (messages_deleted queue through ∷ es) t = set_after moment es (after_entry moment (messages_deleted queue through) t)
 
 numbered_written : (b : Option Batch) (s : State) → AreNumbered s.tables.duties → AreNumbered (after_change b s).tables.duties

@@ -14,7 +14,7 @@ use Rattle.delivery_duties.specs.Duties.{IsNext, pending_row}
 use Rattle.router_core.specs.Request.{Request, IsOneTurn, IsEntitled}
 use Rattle.router_core.specs.Bounds.{IsBounded}
 use Rattle.api_replies.specs.Reply.{Reply}
-use Rattle.router_core.specs.Batch.{Entry, control, accepted, attempt, messages_deleted, Batch}
+use Rattle.router_core.specs.Batch.{Entry, control, accepted, attempt, replay_started, replay_stepped, replay_cancelled, messages_deleted, Batch}
 use Rattle.router_core.specs.Tables.{Tables, first_tables, after_batch, is_full, moment_at}
 use Rattle.router_core.specs.Admitted.{IsAdmitted}
 use Rattle.router_core.specs.Steps.{record_of, claiming, putting_back, fate_after}
@@ -83,6 +83,9 @@ controls_in [] = []
 controls_in (control c ∷ es) = c ∷ controls_in es
 controls_in (accepted e ∷ es) = controls_in es
 controls_in (attempt duty outcome ∷ es) = controls_in es
+controls_in (replay_started s ∷ es) = controls_in es
+controls_in (replay_stepped s ∷ es) = controls_in es
+controls_in (replay_cancelled name ∷ es) = controls_in es
 controls_in (messages_deleted queue through ∷ es) = controls_in es
 
 -- The state after a batch.

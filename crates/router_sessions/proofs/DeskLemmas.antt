@@ -1,5 +1,5 @@
 -- From the hall's clauses to what a pass knows of the history. Other files cite `seen_of`, `learned`, `IsTaken`, `taken`, `answered_later`, `claimed_later`, `recorded_later`, `unrecorded_later`, `unanswered_later`,
--- `back_later`, `rests_there`, `holds_there`, `rests_more`, `looked`, `extends`, `sees_more`, `sees_same`, `same_again`, `same_seat`, `sees_again`, `sees_none`, `pass_of`,
+-- `back_later`, `rests_there`, `holds_there`, `rests_more`, `looked`, `extends`, `extends_none`, `sees_more`, `sees_same`, `same_again`, `same_seat`, `sees_again`, `sees_none`, `pass_of`,
 -- `reply_ok`, `reply_err`.
 use Rattle.std.proofs.Common.{◌≡◌, inl, inr, ℕ, true, false, cond, List, [], ◌∷◌, ◌++◌, map, Option, Some, Result, Ok, Err, refl, sym, ap, ◌∙◌, subst, append-nil, append_assoc}
 use Rattle.std.specs.Prelude.{Bool, IfOk, MatchResult}
@@ -176,6 +176,10 @@ extends seat mid b b_new (more, is, own) seen number = (
   All-weaker (λ (t : Turn). t.pass ≡ Some seat.pass) (λ (t : Turn). names_only (number_of mid) t.pass ≡ true)
       (λ t e. ap (names_only (number_of mid)) {x = t.pass} {y = Some seat.pass} e ∙ eq-eqb seat.pass (number_of mid) number) more own,
 )
+
+-- a pass that made no turn gives the book as it took it
+pub extends_none : {V : Type 0} (mid : Known V) (b : Machine) → seen_by mid ≡ recorded_in b.history → Extends maker (number_of mid) (seen_by mid) (recorded_in b.history)
+extends_none mid b seen = ([], sym seen ∙ sym (append-nil (seen_by mid)), All-nil (λ (t : Turn). names_only (number_of mid) t.pass ≡ true))
 
 -- what the pass had seen, then what others made, then its own turns
 pub sees_more : {V : Type 0} (seat : Seat) (old new : Known V) (b b_new : Machine) → Learns maker (view old) (recorded_in b.history) → HasGrown seat b b_new

@@ -5,18 +5,20 @@ use crate::changes::{control, names, texts};
 use delivery_duties::{NewDuty, Outcome};
 use duty_journal::{attempt_record, put_batch, take_batch};
 use json_text::{Bytes, Text};
-use router_core::{AcceptedEvent, Batch, Entry};
+use replay_run::{RuleNames, TimeRange};
+use router_core::{AcceptedEvent, Batch, Entry, StartedReplay, SteppedReplay};
 use shared_text::{SharedRow, SharedText, TargetRow};
 use std::alloc::Global;
 use std::test::Fail;
-use test_rows::{all_met, last, two};
+use test_rows::{all_met, last, three, two};
 
 /// The moment of each batch.
 const MOMENT: u64 = 1_700_000_000;
 
 /// Batches of one operation, and their bytes, worked by hand. A change is as in `changes`. Others: `event|ARCHIVES|TEXT`, the event 7 of the
 /// bus `b`, matched on version 3, whose time is 1600000000, which archives of these names keep, and which has one duty; `try|DUTY|OUTCOME`;
-/// `delete|QUEUE|THROUGH`.
+/// `start|NAME|ARCHIVE|START|END|RULES`, a replay that starts, whose filter has these rules, or that has no filter if they are `-`;
+/// `step|NAME|EVENT|TEXT`, a step of a replay, with one duty; `cancel|NAME`; `delete|QUEUE|THROUGH`.
 const BATCHES: &str = r#"bus|b|000000006553f1000001010000000162
 no bus|b|000000006553f1000001020000000162
 rule|b|r|{"source":["x"]}|000000006553f10000010300000001620000000172000000107b22736f75726365223a5b2278225d7d01
@@ -41,6 +43,11 @@ try|5|503|000000006553f10000010f00000000000000050101f7
 try|5|silent|000000006553f10000010f0000000000000005020000
 try|5|missing|000000006553f10000010f0000000000000005030000
 try|5|old|000000006553f10000010f0000000000000005040000
+start|p|a|0|258|-|000000006553f100000110000000017000000001610000000000000000000000000000010200
+start|p|a|1|1||000000006553f10000011000000001700000000161000000000000000100000000000000010100000000
+start|p|a|1|1|r,s|000000006553f1000001100000000170000000016100000000000000010000000000000001010000000200000001720000000173
+step|p|7|{}|000000006553f10000011100000001700000000000000007000000010000002e61726e3a6177733a6576656e74733a75732d656173742d313a3131313132323232333333333a72756c652f622f7200000001740000002461726e3a6177733a7371733a75732d656173742d313a3131313132323232333333333a71000000027b7d00090000003d0000
+cancel|p|000000006553f1000001120000000170
 delete|q|9|000000006553f10000011300000001710000000000000009
 "#;
 
@@ -172,11 +179,55 @@ fn event(alloc: Global, parts: &str) -> Result<Entry, Fail> {
     Ok(Entry::Accepted(event))
 }
 
+fn start(alloc: Global, parts: &str) -> Result<Entry, Fail> {
+    let (name, archive, parts) = three(parts);
+    let (start, end, rules) = three(parts);
+    let start = start.parse::<u64>()?;
+    let end = end.parse::<u64>()?;
+    let rules = match rules {
+        "-" => None,
+        names => Some(RuleNames::new(texts(alloc, names)?)),
+    };
+    let start = StartedReplay {
+        name: Text::from_str(alloc, name)?,
+        archive: Text::from_str(alloc, archive)?,
+        range: TimeRange { start, end },
+        rules,
+    };
+    Ok(Entry::ReplayStarted(start))
+}
+
+fn step(alloc: Global, parts: &str) -> Result<Entry, Fail> {
+    let (name, event, text) = three(parts);
+    let event = event.parse::<u64>()?;
+    let duty = NewDuty {
+        target: row(alloc)?,
+        text: SharedText::new(alloc, Text::from_str(alloc, text)?)?,
+        too_long: false,
+    };
+    let mut duties = Vec::new(alloc);
+    duties.push(duty)?;
+    let step = SteppedReplay {
+        name: Text::from_str(alloc, name)?,
+        event,
+        duties,
+    };
+    Ok(Entry::ReplayStepped(step))
+}
+
+fn cancellation(alloc: Global, name: &str) -> Result<Entry, Fail> {
+    let name = Text::from_str(alloc, name)?;
+    Ok(Entry::ReplayCancelled { name })
+}
+
 fn operation(alloc: Global, words: &str) -> Result<Entry, Fail> {
     let (kind, parts) = two(words);
     match kind {
         "event" => event(alloc, parts),
         "try" => attempt(parts),
+        "start" => start(alloc, parts),
+        "step" => step(alloc, parts),
+        "cancel" => cancellation(alloc, parts),
         "delete" => deletion(alloc, parts),
         _ => Ok(Entry::Control(control(alloc, words)?)),
     }
@@ -214,7 +265,7 @@ fn is_met(alloc: Global, row: &str) -> Result<bool, Fail> {
 
 #[test]
 fn each_batch_has_its_bytes(rt: HostRuntime) -> Result<(), Fail> {
-    all_met(rt.alloc(), BATCHES, 25, is_met)
+    all_met(rt.alloc(), BATCHES, 30, is_met)
 }
 
 fn is_said(alloc: Global, row: &str) -> Result<bool, Fail> {

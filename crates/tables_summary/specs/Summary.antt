@@ -10,8 +10,8 @@ use Rattle.program_lines.specs.Printed.{summary_lines}
 use Rattle.router_core.specs.Tables.{Tables}
 
 -- What the tables count: batches, their operations and configuration changes, events, the events that archives keep, an event once for each
--- of its archives, deliveries by their states, and messages in queues. Archives keep only what they retain at the moment of the last batch
--- (router_core `after_batch`). Replays are 0.
+-- of its archives, replays, deliveries by their states, and messages in queues. Archives keep only what they retain at the moment of the last
+-- batch (router_core `after_batch`). A replay that has ended is counted too.
 -- Shown by: program_tests serve.rt: two_workers_serve_the_first_run; archived_events_are_not_counted.edit.
 abbrev pub summary_of : Tables → Summary
 summary_of t = record {
@@ -20,7 +20,7 @@ summary_of t = record {
   control = t.set.count;
   events = t.events;
   archived = event_count t.archives;
-  replays = 0;
+  replays = length t.replays;
   duties = t.duties.created;
   pending = length t.duties.pending;
   delivered = delivered_of t.duties.ended;

@@ -36,7 +36,7 @@ fn summary(tables: &Tables) -> Summary
         control: tables.set().control_count(),
         events: tables.events(),
         archived: archived(tables),
-        replays: 0,
+        replays: tables.replays().count(),
         duties: counts.created,
         pending: counts.pending,
         delivered: counts.delivered,

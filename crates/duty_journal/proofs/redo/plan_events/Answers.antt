@@ -3,6 +3,7 @@ use Rattle.std.proofs.lemmas.Bool.Decides.{nat_tests}
 use Rattle.std.proofs.lemmas.List.{length-map}
 use Rattle.router_core.specs.View.{entry_of}
 use Rattle.router_core.specs.Ready.{ArePartsOf}
+use Rattle.router_core.proofs.StartLemmas.{events_start_none, made_on}
 use Rattle.duty_journal.specs.declared.fault.ReplayFault.TheVariants.{NotAdmitted}
 use Rattle.duty_journal.proofs.RedoLemmas.{events_from, events_to, several_events}
 use Rattle.duty_journal.proofs.redo.plan_events.Goals as goal
@@ -18,7 +19,10 @@ returns-in-Ok-clause-ok c =
     let items = ok.1.1 ∙ ap (λ ps. ps ++ ok.1.0) c.new-parts.ensures.items in (
       inr (omega (arith, size, c.requires.several), grind (arith, nat_tests, size, c.if-entries-gt10.false), up.0),
       up.1,
-      subst (ArePartsOf moment t.set es) (sym items) (ok.1.2 t.set),
+      (
+        subst (ArePartsOf moment t.set es) (sym items) (ok.1.2 t.set),
+        made_on moment es c.admit_events.new.parts.items t (events_start_none es up.0),
+      ),
     )
 
 pub returns-in-Err-clause-refused : goal.returns-in-Err-clause-refused

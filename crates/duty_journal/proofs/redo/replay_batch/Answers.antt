@@ -1,7 +1,7 @@
 use Rattle.std.proofs.Common.{List, map, ap, sym, subst}
 use Rattle.router_core.specs.View.{batch_of, entry_of}
 use Rattle.router_core.specs.Admitted.{AreAdmitted, AreOfOneTurn, IsAdmitted}
-use Rattle.router_core.specs.Ready.{ArePartsOf}
+use Rattle.router_core.specs.Ready.{ArePartsOf, AreMadeOn}
 use Rattle.router_core.specs.declared.batch.Batch.{Batch}
 use Rattle.router_core.specs.declared.batch.Entry.{Entry}
 use Rattle.router_core.specs.declared.ready.Part.{Part}
@@ -24,13 +24,18 @@ returns-in-Parts-clause-ready c =
       entries = subst (λ (es : List Entry). AreAdmitted b.moment (map entry_of es) t) value ok.1;
     } in
     let parts = subst (λ (p : Plan). IsPlanOf t b.moment (map entry_of c.deref.result.now) p) c.in-Parts.is ok.2 in
-    let own = subst (λ (es : List Entry). ArePartsOf b.moment t.set (map entry_of es) c.in-Parts.parts.items) value parts in
+    let Own : List Entry → Type 0 = λ es. ArePartsOf b.moment t.set (map entry_of es) c.in-Parts.parts.items × AreMadeOn b.moment t (map entry_of es) c.in-Parts.parts.items in
+    let own = subst Own value parts in
     let whole = ap batch_of c.new.ensures.batch in (
       (
         record {
           admitted = subst (IsAdmitted t) (sym whole) admitted;
-          prepared = subst (λ (ps : List Part). ArePartsOf c.new.result.batch.moment t.set (batch_of c.new.result.batch).entries ps) (sym c.new.ensures.parts)
-              (subst (λ (o : Batch). ArePartsOf o.moment t.set (batch_of o).entries c.in-Parts.parts.items) (sym c.new.ensures.batch) own);
+          prepared = subst
+              (λ (ps : List Part). ArePartsOf c.new.result.batch.moment t.set (batch_of c.new.result.batch).entries ps
+              × AreMadeOn c.new.result.batch.moment t (batch_of c.new.result.batch).entries ps) (sym c.new.ensures.parts)
+              (subst
+              (λ (o : Batch). ArePartsOf o.moment t.set (batch_of o).entries c.in-Parts.parts.items
+              × AreMadeOn o.moment t (batch_of o).entries c.in-Parts.parts.items) (sym c.new.ensures.batch) own);
         },
         whole,
       ),

@@ -15,4 +15,4 @@ returns-clause-made c =
       there = queue_there c.args.queue.now through t.duties.queues c.requires.some;
       bounded = c.requires.through;
       some = c.requires.some;
-    })) tt
+    })) tt tt

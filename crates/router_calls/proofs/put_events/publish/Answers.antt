@@ -7,7 +7,7 @@ use Rattle.router_calls.specs.Accepted.{found_of}
 use Rattle.router_calls.specs.Decided.{decided_of}
 use Rattle.router_calls.specs.Steps.{Places}
 use Rattle.router_calls.specs.declared.put_events.PlacedEntries.{PlacedEntries}
-use Rattle.router_calls.proofs.TimeLemmas.{iso_of}
+use Rattle.router_core.proofs.TimeLemmas.{iso_of}
 use Rattle.router_calls.proofs.EntryLemmas.{are_ready, published_at, IsFresh}
 use Rattle.router_calls.proofs.put_events.publish.Goals as goal
 

@@ -34,6 +34,9 @@ join-requires-clause-moment c = c.requires.ready.admitted.moment
 pub join-requires-clause-later : goal.join-requires-clause-later
 join-requires-clause-later c = (left_first _ _ _ _ _ _ _ _ (here c)).2
 
+pub join-requires-clause-made : goal.join-requires-clause-made
+join-requires-clause-made c = (left_first _ _ _ _ _ _ _ _ (here c)).3
+
 pub join-requires-clause-entries : goal.join-requires-clause-entries
 join-requires-clause-entries c = (left_room (batch_of c.args.ready.batch) _ _ _ _ _ c.requires.ready.admitted (here c)).0
 
@@ -55,13 +58,13 @@ loop-entry-preserved c =
 pub purge-requires : goal.purge-requires
 purge-requires c =
     let i = c.self-2.inside in
-    let t : Tables = record { set = i.set; duties = i.duties; archives = i.archives; events = i.events; entries = i.entries; batches = i.batches; moment = i.moment } in
+    let t : Tables = record { set = i.set; duties = i.duties; archives = i.archives; replays = i.replays; events = i.events; entries = i.entries; batches = i.batches; moment = i.moment } in
     record { names = c.self-2.invariant.archives; few = purge_few t c.self-2.invariant }
 
 pub invariant_of-self : goal.invariant_of-self
 invariant_of-self c =
     let i = c.self-2.inside in
-    let t : Tables = record { set = i.set; duties = i.duties; archives = i.archives; events = i.events; entries = i.entries; batches = i.batches; moment = i.moment } in
+    let t : Tables = record { set = i.set; duties = i.duties; archives = i.archives; replays = i.replays; events = i.events; entries = i.entries; batches = i.batches; moment = i.moment } in
     let batches : c.self.inside.batches ≡ c.args.self.now.batches = ap (λ (s : Tables). s.batches) c.self.view_is in
     let last : IsLeft c.args.ready.batch.moment (batch_of c.args.ready.batch).entries [] c.args.self.now c.loop-entry.self c.loop-entry.parts.items =
     left_end c.args.ready.batch.entries.items c.deref-entry-items.result.now c.loop-entry.entry-index c.deref-entry-items.ensures.value
@@ -72,7 +75,7 @@ invariant_of-self c =
 pub returns : goal.returns
 returns c =
     let i = c.self-2.inside in
-    let t : Tables = record { set = i.set; duties = i.duties; archives = i.archives; events = i.events; entries = i.entries; batches = i.batches; moment = i.moment } in
+    let t : Tables = record { set = i.set; duties = i.duties; archives = i.archives; replays = i.replays; events = i.events; entries = i.entries; batches = i.batches; moment = i.moment } in
     let batches : c.self.inside.batches ≡ c.args.self.now.batches = ap (λ (s : Tables). s.batches) c.self.view_is in
     let last : IsLeft c.args.ready.batch.moment (batch_of c.args.ready.batch).entries [] c.args.self.now c.loop-entry.self c.loop-entry.parts.items =
     left_end c.args.ready.batch.entries.items c.deref-entry-items.result.now c.loop-entry.entry-index c.deref-entry-items.ensures.value

@@ -15,7 +15,7 @@ use Rattle.router_core.proofs.tables.Tables.configure.Goals as goal
 pub create_queue-requires : goal.create_queue-requires
 create_queue-requires c =
     let i = c.self.inside in
-    let t : Tables = record { set = i.set; duties = i.duties; archives = i.archives; events = i.events; entries = i.entries; batches = i.batches; moment = i.moment } in
+    let t : Tables = record { set = i.set; duties = i.duties; archives = i.archives; replays = i.replays; events = i.events; entries = i.entries; batches = i.batches; moment = i.moment } in
     let x : Control = control_of c.in-Control.control in
     let part = subst (λ e. IsPartOf c.args.moment c.args.self.now.set (entry_of e) (Configuration c.args.set c.args.new_queue c.args.new_archive)) c.in-Control.is c.requires.part in
     let admitted = subst (λ e. IsEntryAdmitted c.args.moment (entry_of e) c.args.self.now) c.in-Control.is c.requires.admitted in
@@ -24,7 +24,7 @@ create_queue-requires c =
 pub change_archives-requires : goal.change_archives-requires
 change_archives-requires c =
     let i = c.self.inside in
-    let t : Tables = record { set = i.set; duties = i.duties; archives = i.archives; events = i.events; entries = i.entries; batches = i.batches; moment = i.moment } in
+    let t : Tables = record { set = i.set; duties = i.duties; archives = i.archives; replays = i.replays; events = i.events; entries = i.entries; batches = i.batches; moment = i.moment } in
     let x : Control = control_of c.in-Control.control in
     let part = subst (λ e. IsPartOf c.args.moment c.args.self.now.set (entry_of e) (Configuration c.args.set c.args.new_queue c.args.new_archive)) c.in-Control.is c.requires.part in
     let admitted = subst (λ e. IsEntryAdmitted c.args.moment (entry_of e) c.args.self.now) c.in-Control.is c.requires.admitted in
@@ -33,7 +33,7 @@ change_archives-requires c =
 pub invariant_of-self : goal.invariant_of-self
 invariant_of-self c =
     let i = c.self.inside in
-    let t : Tables = record { set = i.set; duties = i.duties; archives = i.archives; events = i.events; entries = i.entries; batches = i.batches; moment = i.moment } in
+    let t : Tables = record { set = i.set; duties = i.duties; archives = i.archives; replays = i.replays; events = i.events; entries = i.entries; batches = i.batches; moment = i.moment } in
     let x : Control = control_of c.in-Control.control in
     let part = subst (λ e. IsPartOf c.args.moment c.args.self.now.set (entry_of e) (Configuration c.args.set c.args.new_queue c.args.new_archive)) c.in-Control.is c.requires.part in
     let admitted = subst (λ e. IsEntryAdmitted c.args.moment (entry_of e) c.args.self.now) c.in-Control.is c.requires.admitted in
@@ -46,7 +46,7 @@ invariant_of-self c =
 pub returns-clause-configured : goal.returns-clause-configured
 returns-clause-configured c =
     let i = c.self.inside in
-    let t : Tables = record { set = i.set; duties = i.duties; archives = i.archives; events = i.events; entries = i.entries; batches = i.batches; moment = i.moment } in
+    let t : Tables = record { set = i.set; duties = i.duties; archives = i.archives; replays = i.replays; events = i.events; entries = i.entries; batches = i.batches; moment = i.moment } in
     let x : Control = control_of c.in-Control.control in
     let part = subst (λ e. IsPartOf c.args.moment c.args.self.now.set (entry_of e) (Configuration c.args.set c.args.new_queue c.args.new_archive)) c.in-Control.is c.requires.part in
     changed x c.args.moment t c.args.self.now c.replace.new.dest c.forget_queue.new.duties c.change_archives.new.archives c.self.view_is

@@ -10,13 +10,13 @@ use Rattle.router_core.proofs.tables.Tables.finish.Goals as goal
 pub purge-requires : goal.purge-requires
 purge-requires c =
     let i = c.self.inside in
-    let t : Tables = record { set = i.set; duties = i.duties; archives = i.archives; events = i.events; entries = i.entries; batches = i.batches; moment = i.moment } in
+    let t : Tables = record { set = i.set; duties = i.duties; archives = i.archives; replays = i.replays; events = i.events; entries = i.entries; batches = i.batches; moment = i.moment } in
     record { names = c.self.invariant.archives; few = purge_few t c.self.invariant }
 
 pub invariant_of-self : goal.invariant_of-self
 invariant_of-self c =
     let i = c.self.inside in
-    let t : Tables = record { set = i.set; duties = i.duties; archives = i.archives; events = i.events; entries = i.entries; batches = i.batches; moment = i.moment } in
+    let t : Tables = record { set = i.set; duties = i.duties; archives = i.archives; replays = i.replays; events = i.events; entries = i.entries; batches = i.batches; moment = i.moment } in
     let (ended, is) = c.requires.recorded in
     let admitted = subst (λ (b : Batch). IsAdmitted c.args.self.now b) is c.requires.admitted in
     with_attempt t c.args.self.now c.args.errand.claim.number c.args.errand.batch.moment ended c.settle-fate.new.self c.purge.new.archives c.self.view_is admitted
@@ -25,7 +25,7 @@ invariant_of-self c =
 pub returns-clause-tables : goal.returns-clause-tables
 returns-clause-tables c =
     let i = c.self.inside in
-    let t : Tables = record { set = i.set; duties = i.duties; archives = i.archives; events = i.events; entries = i.entries; batches = i.batches; moment = i.moment } in
+    let t : Tables = record { set = i.set; duties = i.duties; archives = i.archives; replays = i.replays; events = i.events; entries = i.entries; batches = i.batches; moment = i.moment } in
     let n = c.args.errand.claim.number in
     let moment = c.args.errand.batch.moment in
     let (ended, is) = c.requires.recorded in

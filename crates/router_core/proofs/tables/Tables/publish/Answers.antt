@@ -12,7 +12,7 @@ use Rattle.router_core.proofs.tables.Tables.publish.Goals as goal
 pub keep_each-requires : goal.keep_each-requires
 keep_each-requires c =
     let i = c.self.inside in
-    let t : Tables = record { set = i.set; duties = i.duties; archives = i.archives; events = i.events; entries = i.entries; batches = i.batches; moment = i.moment } in
+    let t : Tables = record { set = i.set; duties = i.duties; archives = i.archives; replays = i.replays; events = i.events; entries = i.entries; batches = i.batches; moment = i.moment } in
     let e : Accepted = accepted_of c.in-Accepted.event in
     let part = subst (λ x. IsPartOf c.args.moment c.args.self.now.set (entry_of x) (Event c.args.duties c.args.kept)) c.in-Accepted.is c.requires.part in
     let admitted = subst (λ x. IsEntryAdmitted c.args.moment (entry_of x) c.args.self.now) c.in-Accepted.is c.requires.admitted in
@@ -21,7 +21,7 @@ keep_each-requires c =
 pub invariant_of-self : goal.invariant_of-self
 invariant_of-self c =
     let i = c.self.inside in
-    let t : Tables = record { set = i.set; duties = i.duties; archives = i.archives; events = i.events; entries = i.entries; batches = i.batches; moment = i.moment } in
+    let t : Tables = record { set = i.set; duties = i.duties; archives = i.archives; replays = i.replays; events = i.events; entries = i.entries; batches = i.batches; moment = i.moment } in
     let e : Accepted = accepted_of c.in-Accepted.event in
     let part = subst (λ x. IsPartOf c.args.moment c.args.self.now.set (entry_of x) (Event c.args.duties c.args.kept)) c.in-Accepted.is c.requires.part in
     let admitted = subst (λ x. IsEntryAdmitted c.args.moment (entry_of x) c.args.self.now) c.in-Accepted.is c.requires.admitted in
@@ -34,7 +34,7 @@ invariant_of-self c =
 pub returns-clause-added : goal.returns-clause-added
 returns-clause-added c =
     let i = c.self.inside in
-    let t : Tables = record { set = i.set; duties = i.duties; archives = i.archives; events = i.events; entries = i.entries; batches = i.batches; moment = i.moment } in
+    let t : Tables = record { set = i.set; duties = i.duties; archives = i.archives; replays = i.replays; events = i.events; entries = i.entries; batches = i.batches; moment = i.moment } in
     let e : Accepted = accepted_of c.in-Accepted.event in
     let part = subst (λ x. IsPartOf c.args.moment c.args.self.now.set (entry_of x) (Event c.args.duties c.args.kept)) c.in-Accepted.is c.requires.part in
     let admitted = subst (λ x. IsEntryAdmitted c.args.moment (entry_of x) c.args.self.now) c.in-Accepted.is c.requires.admitted in

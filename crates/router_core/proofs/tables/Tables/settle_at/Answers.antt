@@ -9,7 +9,7 @@ use Rattle.router_core.proofs.tables.Tables.settle_at.Goals as goal
 pub returns-clause-fate : goal.returns-clause-fate
 returns-clause-fate c = λ own there.
     let i = c.self.inside in
-    let t : Tables = record { set = i.set; duties = i.duties; archives = i.archives; events = i.events; entries = i.entries; batches = i.batches; moment = i.moment } in
+    let t : Tables = record { set = i.set; duties = i.duties; archives = i.archives; replays = i.replays; events = i.events; entries = i.entries; batches = i.batches; moment = i.moment } in
     let free = c.requires.free in
     fate_at t c.args.self.now c.args.duty c.args.moment c.args.outcome c.claim_at-claim.new.self c.settle-fate.result free.0 own c.self.view_is free.1 free.3
     c.claim_at-claim.ensures.claimed
@@ -18,7 +18,7 @@ returns-clause-fate c = λ own there.
 pub returns-clause-tables : goal.returns-clause-tables
 returns-clause-tables c =
     let i = c.self.inside in
-    let t : Tables = record { set = i.set; duties = i.duties; archives = i.archives; events = i.events; entries = i.entries; batches = i.batches; moment = i.moment } in
+    let t : Tables = record { set = i.set; duties = i.duties; archives = i.archives; replays = i.replays; events = i.events; entries = i.entries; batches = i.batches; moment = i.moment } in
     let free = c.requires.free in
     settled_at t c.args.self.now c.args.duty c.args.moment c.args.outcome c.claim_at-claim.new.self c.settle-fate.new.self c.purge-expired.new.archives
     free.0 c.self.view_is c.requires.admitted free.1 free.3 c.claim_at-claim.ensures.claimed
@@ -28,13 +28,13 @@ returns-clause-tables c =
 pub purge-expired-requires : goal.purge-expired-requires
 purge-expired-requires c =
     let i = c.self.inside in
-    let t : Tables = record { set = i.set; duties = i.duties; archives = i.archives; events = i.events; entries = i.entries; batches = i.batches; moment = i.moment } in
+    let t : Tables = record { set = i.set; duties = i.duties; archives = i.archives; replays = i.replays; events = i.events; entries = i.entries; batches = i.batches; moment = i.moment } in
     record { names = c.self.invariant.archives; few = purge_few t c.self.invariant }
 
 pub invariant_of-self : goal.invariant_of-self
 invariant_of-self c =
     let i = c.self.inside in
-    let t : Tables = record { set = i.set; duties = i.duties; archives = i.archives; events = i.events; entries = i.entries; batches = i.batches; moment = i.moment } in
+    let t : Tables = record { set = i.set; duties = i.duties; archives = i.archives; replays = i.replays; events = i.events; entries = i.entries; batches = i.batches; moment = i.moment } in
     let kept = claimed_kept c.args.duty i.duties in
     with_attempt t c.args.self.now c.args.duty c.args.moment c.args.outcome c.settle-fate.new.self c.purge-expired.new.archives c.self.view_is
     c.requires.admitted

@@ -1,8 +1,11 @@
 use Rattle.std.proofs.Common.{List, refl, sym, ap, ◌∙◌}
 use Rattle.router_history.specs.History.{Turn, state_of}
 use Rattle.router_sessions.specs.Desk.{seat_of, turns_seen}
-use Rattle.router_sessions.proofs.DeskLemmas.{seen_of, looked, learned_alone, rests_more}
+use Rattle.router_sessions.proofs.DeskLemmas.{seen_of, looked, learned_alone, rests_more, extends_none}
 use Rattle.router_sessions.proofs.desk.Desk.look.Goals as goal
+
+pub give-requires-clause-longer : goal.give-requires-clause-longer
+give-requires-clause-longer g c = extends_none c.take-book.new.pass.seat c.take-book.result.machine c.take-book.ensures.seen
 
 pub returns-clause-looked : goal.returns-clause-looked
 returns-clause-looked g c =

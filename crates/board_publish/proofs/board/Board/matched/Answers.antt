@@ -4,7 +4,7 @@ use Rattle.rule_table.specs.RuleSet.{rules_of}
 use Rattle.router_core.specs.Matching.{AreMatched}
 use Rattle.router_core.specs.declared.seen.SeenTarget.{SeenTarget}
 use Rattle.board_publish.proofs.FoundLemmas.{nothing_matched}
-use Rattle.board_publish.proofs.board.Board.targets.Goals as goal
+use Rattle.board_publish.proofs.board.Board.matched.Goals as goal
 
 pub returns-in-None : goal.returns-in-None
 returns-in-None c =
