@@ -10,10 +10,11 @@ and makes calls fail; `crash_images.py` makes from these calls the files that a 
 - No reply is written before the batches of its request are on the disk for sure.
 - What a crash may leave of the first run has the acknowledged batches, or also those of one append, and a further run goes on from there.
 - If a call of the disk fails, or the disk is full, replies, standard error, status and what a crash may leave are as they have to be. With room
-  again a further run goes on.
+  again a further run goes on. Steps of a replay that were made before stay.
 - A copy of the journal that is made meanwhile has what was replied before, and so has the journal of a run that is killed.
 - A file that is no journal, is damaged or is in use is refused, and not changed.
-- Archives of later runs retain what their days say, and the days of an update count from its moment.
+- Archives of later runs retain what their days say, and the days of an update count from its moment. A replay repeats what was retained at its
+  start.
 - `serve` ends after a disk fault. examples/journal/kill.py runs meanwhile.
 
 A word names another program to run. A case that fails has a line. The last line is `N passed, M failed`.
@@ -341,6 +342,33 @@ def failing_calls(kind, name):
     return cases
 
 
+def steps_that_fail():
+    """A call of the disk fails in the second of three steps of a replay. The first one stays; while the replay is running, a further step is
+    refused, and the next run goes on with it. Once it has ended there is no step to refuse."""
+    cases, stored, arn = Cases(), StoredRun("archive-and-replay"), "arn:aws:events:us-east-1:111122223333:"
+    front = b"".join(it.text for it in stored.messages[:4])  # a queue, a rule with a target, and an archive
+    event, start, steps = (stored.messages[it].text for it in (4, 6, 7))
+    more = steps + message("DescribeReplay", '{"ReplayName":"p"}') + steps + message("CancelReplay", '{"ReplayName":"p"}') + message("DutyCounts", "{}")
+    described = f'{{"ReplayName":"p","ReplayArn":"{arn}replay/p","State":"RUNNING","EventSourceArn":"{arn}archive/a",'
+    times = ("EventStartTime", "EventEndTime", "EventLastReplayedTime", "ReplayStartTime")
+    described += f'"Destination":{{"Arn":"{arn}event-bus/default"}}' + "".join(f',"{it}":{NOW}' for it in times) + "}"
+    counts = '{"Created":4,"Pending":4,"Delivered":0,"DeadLettered":0,"Dropped":0}'
+    wanted = b"".join(reply(*it) for it in (FAILED, (200, described), FAILED, FAILED, (200, counts)))
+    with Room() as room:
+        for fails, call, kept in (("w 20", "pwrite", 9), ("w 21", "pwrite", 9), ("s 21", "fdatasync", 9), ("s 22", "fdatasync", 10)):
+            path = room / fails
+            output, *ended = once(path, front + event * 3 + start + more, fails=fails)
+            cases.meets(f"{fails} fails, the replies", output[-len(wanted) :], wanted)
+            cases.meets(f"{fails} fails, the end", ended, [disk_failed(path, f"{call}: {IO_ERROR}"), 5])
+            cases.meets(f"{fails} fails, the records", records_of(path.read_bytes()), kept)
+            cases.meets(f"{fails} fails, the next run", once(path, steps), (reply(200, f'{{"Steps":{11 - kept}}}'), b"", 0))
+        asked = b"".join(it.text for it in stored.messages[:9]) + steps
+        output = once(room / "ended", asked, fails="w 18")[0]  # the replay has ended, and its delivery is not recorded
+        cases.meets("no step to refuse", output, b"".join(stored.parts[:8]) + reply(*FAILED) + reply(200, '{"Steps":0}'))
+    return cases
+
+
+
 def opening_faults():
     """Calls that fail while a file is opened: nothing is replied, and a journal keeps what it has."""
     cases = Cases()
@@ -511,6 +539,39 @@ def days_of_archives():
     return cases
 
 
+def a_replay_over_days():
+    """A replay repeats what its archive of one day retained at its start, also what has expired since; the archive does not retain it again."""
+    cases, arn = Cases(), "arn:aws:events:us-east-1:111122223333:"
+    created = message("CreateArchive", f'{{"ArchiveName":"a","EventSourceArn":"{arn}event-bus/default","RetentionDays":1}}')
+    span = f'"EventSourceArn":"{arn}archive/a","EventStartTime":5000,"EventEndTime":6000'
+    started = message("StartReplay", f'{{"ReplayName":"p",{span},"Destination":{{"Arn":"{arn}event-bus/default"}}}}')
+    of_it = message("DescribeArchive", '{"ArchiveName":"a"}') + message("DescribeReplay", '{"ReplayName":"p"}')
+    ended = message("CancelReplay", '{"ReplayName":"p"}')
+
+    def event(at):
+        return message("PutEvents", SMALL_EVENT.replace("}]}", f',"Time":{at}}}]}}'))
+
+    with Room() as room:
+        path = room / "J"
+
+        def shown(asked, now):
+            output, *left = once(path, asked, now)
+            cases.meets(f"the end at {now}", left, [b"", 0])
+            of_replies = r'"(?:State|EventCount|EventLastReplayedTime|Steps|message)":("[^"]*"|[0-9]+)'
+            return [it.strip('"') for it in re.findall(of_replies, output.decode())]
+
+        for now, asked in ((1_000, created + event(5_000)), (2_000, event(5_000)), (50_000, event(6_000) + event(6_001))):
+            shown(asked, now)
+        cases.meets("the start", shown(started, 87_400), ["RUNNING"])
+        found = shown(message("StepReplays", '{"Budget":1}') + of_it + ended + ended, 88_400)
+        cases.meets("a step and the end", found, ["1", "ENABLED", "2", "RUNNING", "5000", "CANCELLED", "Replay p is not running."])
+        batches = (87_400, (16, "p", "a", 5_000, 6_000, None)), (88_400, (17, "p", 2, [])), (88_400, (18, "p"))
+        cases.meets("the batches", payloads_of(path.read_bytes())[-3:], [batch_bytes(now, [it]) for now, it in batches])
+        cases.meets("check", check(path), checked(path.read_bytes()))
+        cases.meets("check counts the events", b"\nevents 4 archived 2 replays 1\n" in check(path)[1], True)
+    return cases
+
+
 # ---- serve
 
 
@@ -567,7 +628,9 @@ def tasks():
         yield f"mixed requests over days from {reading} on", mixed_requests_over_days, [reading]
     for name in stored_runs():
         yield name, cut_run, [name]
-    for task in (two_halves, copies, killed, opening_faults, full_file_system, refused_files, sends_that_fail, days_of_archives):
+    for task in (two_halves, copies, killed, steps_that_fail, opening_faults, full_file_system, refused_files, sends_that_fail):
+        yield task.__name__, task, []
+    for task in (days_of_archives, a_replay_over_days):
         yield task.__name__, task, []
 
 

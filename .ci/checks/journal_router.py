@@ -1,5 +1,6 @@
 """The router by its rules (`router.py`), with the journal that its requests have to leave: a batch for each change of the configuration,
-for the events of a PutEvents, for each attempt of a delivery, and for messages that are deleted.
+for the events of a PutEvents, for each attempt of a delivery, for the start, each step and the cancellation of a replay, and for messages
+that are deleted.
 """
 from deliveries import Deliveries
 from journal_file import ACCEPTED, CODE, NO_ANSWER, TOO_OLD, batch_bytes, journal
@@ -60,6 +61,11 @@ class RecordingRouter(Router):
         if action in CHANGES:
             operations = CHANGES[action](self, value, bus_of(value), reply, before)
             self.control += len(operations)
+        elif action == "AWSEvents.StartReplay":
+            made = self.replays[value["ReplayName"]]
+            operations = [(16, made.name, made.archive, *made.range, made.rules)]
+        elif action == "AWSEvents.CancelReplay":
+            operations = [(18, value["ReplayName"])]
         elif action == "RouterLocal.DeleteMessages" and reply["Deleted"]:
             operations = [(19, value["QueueName"], int(str(getattr(value["Through"], "spelling", value["Through"]))))]
         if operations:
@@ -74,6 +80,12 @@ class RecordingRouter(Router):
     def accept(self, bus, entry, text, archives):
         self.deliveries.rows = []
         self.accepted.append((14, self.events, bus.name, self.control, self.time_of(entry), text, archives, self.deliveries.rows))
+
+    def step_replay(self, replay):
+        self.deliveries.rows = []
+        _, _, number, _ = replay.left[0]
+        super().step_replay(replay)
+        self.record(self.moment, [(17, replay.name, number, self.deliveries.rows)])
 
     # -- The operations of a request that was accepted
 

@@ -25,7 +25,7 @@ from concurrent.futures import ProcessPoolExecutor
 
 import rows
 from mixed_requests import ACTIONS, a_request, all_that_is_due, conditions, events_in_archives, faults_of_targets, in_order_of_names
-from mixed_requests import inputs_of_targets, most_bytes, one_by_one, request_of, to_the_limits, uses_of_queues
+from mixed_requests import inputs_of_targets, most_bytes, one_by_one, replays_of_archives, request_of, to_the_limits, uses_of_queues
 from router import A_CALL, CALLS, PEEKED_MOST, TARGET_MEMBERS, Router
 
 PROGRAM = "crates/ebusd/out/ebusd"
@@ -48,6 +48,7 @@ NO_BUS = "Event bus {} does not exist."
 NO_RULE = "Rule {} does not exist."
 NO_QUEUE = "Queue {} does not exist."
 NO_ARCHIVE = "Archive {} does not exist."
+NO_REPLAY = "Replay {} does not exist."
 REFUSALS = {
     "AWSEvents.CreateEventBus": ["Event bus {} already exists.", "Event bus limit 100 reached."],
     "AWSEvents.DeleteEventBus": ["The default bus stays.", NO_BUS, "Event bus {} is in use."],
@@ -74,6 +75,10 @@ REFUSALS = {
     "AWSEvents.UpdateArchive": [NO_ARCHIVE],
     "AWSEvents.DeleteArchive": [NO_ARCHIVE],
     "AWSEvents.DescribeArchive": [NO_ARCHIVE],
+    "AWSEvents.StartReplay": ["Replay {} already exists.", NO_ARCHIVE, "Destination is not the archive's bus.", "The range is empty."]
+    + ["Replay limit 10 reached."],
+    "AWSEvents.CancelReplay": [NO_REPLAY, "Replay {} is not running."],
+    "AWSEvents.DescribeReplay": [NO_REPLAY],
     "RouterLocal.CreateQueue": ["Queue {} already exists.", "Queue limit 1000 reached."],
     "RouterLocal.DeleteQueue": [NO_QUEUE]
     + [f"{it} uses the queue." for it in ("a target", "a target's dead letters", "a delivery", "a delivery's dead letters", "a message")],
@@ -115,7 +120,9 @@ def requests_of(router, chance):
         yield a_request(router, chance, length)
     for over in (0, 1):
         yield request_of("AWSEvents.PutEvents", most_bytes(over), chance, 300_000)
-    for make in (one_by_one, conditions, faults_of_targets, inputs_of_targets, uses_of_queues, in_order_of_names, events_in_archives, to_the_limits, all_that_is_due):
+    for make in (one_by_one, conditions, faults_of_targets, inputs_of_targets, uses_of_queues, in_order_of_names, events_in_archives):
+        yield from make(router, chance)
+    for make in (replays_of_archives, to_the_limits, all_that_is_due):
         yield from make(router, chance)
     yield request_of("RouterLocal.DeliverDue", {"Budget": A_CALL}, chance, 20)
     yield request_of("RouterLocal.DutyCounts", {}, chance, 20)

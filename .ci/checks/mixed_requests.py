@@ -9,9 +9,10 @@ from input_texts import BAD_INPUTS, BAD_PATHS, BAD_TRANSFORMERS, DETAIL, INPUTS,
 from pattern_texts import a_pattern_text, an_event, no_event, spell
 from patterns import Number, spelled
 from policy_texts import BAD_MEMBERS, a_policy_text
-from router import ARCHIVE_STATES, CALLS, DAYS_LIMIT, ENTRIES_SIZE, EVENTS_ARN, LAST_NUMBER, NO_OBJECT, OWNER, PEEKED_MOST, QUEUE_ARN, Spelled
+from router import ARCHIVE_STATES, CALLS, DAYS_LIMIT, ENTRIES_SIZE, EVENTS_ARN, LAST_NUMBER, NO_OBJECT, OWNER, PEEKED_MOST, QUEUE_ARN
+from router import REPLAY_STATES, RUNNING_LIMIT, Spelled, moment_of
 
-BUS_ARN = EVENTS_ARN + "event-bus/"
+BUS_ARN, ARCHIVE_ARN, RULE_ARN = EVENTS_ARN + "event-bus/", EVENTS_ARN + "archive/", EVENTS_ARN + "rule/"
 BUSES = ["default", "orders", "shop.bus", "b-1", "b_2", "B" * 256, "aws", "0", "-", "zz"]  # that a run makes before it fills all
 STRANGERS = ["444455556666", "777788889999", "000000000000"]
 BAD_CALLERS = ["", "1", "11112222333", "1111222233334", "1111 2222 3333", "11112222333x", "-11112222333"]
@@ -19,6 +20,7 @@ BAD_CALLERS += ["arn:aws:iam::444455556666:root", "१११１２２２２３�
 RULES = 9  # rules of a bus that a run makes before it fills one
 QUEUES = 200  # queues that a run makes before it fills all
 ARCHIVES = 9  # archives that a run makes before it fills all
+REPLAYS = 90  # names of replays, which are never free again
 
 SOURCES = [f"shop.{it}" for it in ("orders", "returns", "stock", "prices", "users", "carts")] + ["Ünï.код", "a"]
 TYPES = ["Order", "Return", "Item sold", "Price \\ \"new\"", "x", "two\nlines"]
@@ -127,7 +129,7 @@ def create_event_bus(_router, chance):
 
 
 def delete_event_bus(router, chance):
-    used = {it.bus.name for it in router.archives.values()}
+    used = {it.bus.name for it in router.archives.values()} | {it.bus for it in router.running}
     empty = [name for name, it in router.buses.items() if not it.rules and name not in used]
     return {"Name": chance.choice(empty if empty and chance.random() < 0.6 else BUSES)}
 
@@ -319,6 +321,48 @@ def list_archives(router, chance):
     return {**a_prefix(chance, ["archive.1", *router.archives]), **source, **state}
 
 
+def some_replay(router, chance):
+    """The name of a replay, most of which exist."""
+    names = list(router.replays)
+    return chance.choice(names) if names and chance.random() < 0.9 else f"replay.{chance.randint(1, REPLAYS)}"
+
+
+def a_destination(router, chance, archive):
+    """The bus of the archive, or now and then another one, and perhaps some rules."""
+    bus = router.archives[archive].bus.name if archive in router.archives and chance.random() < 0.9 else some_bus(router, chance)
+    rules = [f"{RULE_ARN}{'' if bus == 'default' else bus + '/'}{it}" for it in [*router.buses.get(bus, router.buses["default"]).rules, "none"]]
+    some = {"FilterArns": chance.choice([None, [], chance.sample(rules, chance.randint(1, len(rules)))])}
+    return {"Arn": BUS_ARN + bus, **(some if chance.random() < 0.4 else {})}
+
+
+def start_replay(router, chance):
+    name, archive = f"replay.{chance.randint(1, REPLAYS)}", some_archive(router, chance)
+    times = chance.sample([*TIMES, router.reading, router.reading, 1, 1_700_000_001], 2)
+    first, last = times if chance.random() < 0.1 else sorted(times, key=moment_of)
+    members = {"ReplayName": name, "EventSourceArn": ARCHIVE_ARN + archive, "EventStartTime": first, "EventEndTime": last}
+    return {**members, "Destination": a_destination(router, chance, archive)}
+
+
+def cancel_replay(router, chance):
+    running = router.running
+    return {"ReplayName": chance.choice(running).name if running and chance.random() < 0.6 else some_replay(router, chance)}
+
+
+def of_replay(router, chance):
+    return {"ReplayName": some_replay(router, chance)}
+
+
+def list_replays(router, chance):
+    source = chance.choice([{}, {}, {"EventSourceArn": ARCHIVE_ARN + some_archive(router, chance)}, {"EventSourceArn": chance.choice(["", "a"])}])
+    state = chance.choice([{}, {"State": "COMPLETED"}, {"State": chance.choice(REPLAY_STATES)}])
+    return {**a_prefix(chance, ["replay.1", *router.replays]), **source, **state}
+
+
+def step_replays(_router, chance):
+    most = chance.choice([1, 1, 2, 5, 20, None])
+    return {} if most is None else {"Budget": most}
+
+
 def test_event_pattern(_router, chance):
     event = an_event(chance)
     text = no_event(chance, event) if chance.random() < 0.08 else spell(chance, event, 0.05)
@@ -429,6 +473,12 @@ BAD_EVENTS = ["", "[1]", "1", "null", "{}", '{"source":"a"}', 1, {}, [], '{"id":
 BAD_TEXTS = [1, {}, [], True, ["a"]]
 BAD_SOURCES = ["", "default", BUS_ARN, BUS_ARN + "a/b", BUS_ARN + "b" * 257, EVENTS_ARN + "archive/a", EVENTS_ARN + "rule/default", 1, {}]
 BAD_SOURCES += ["arn:aws:events:eu-west-1:111122223333:event-bus/default", " " + BUS_ARN + "default"]
+BAD_ARCHIVES = ["", "a", ARCHIVE_ARN, ARCHIVE_ARN + "a/b", ARCHIVE_ARN + "a" * 49, BUS_ARN + "default", EVENTS_ARN + "replay/a", 1, {}]
+BAD_ARCHIVES += ["arn:aws:events:eu-west-1:111122223333:archive/a", " " + ARCHIVE_ARN + "a"]
+A_DESTINATION = {"Arn": BUS_ARN + "default"}
+BAD_DESTINATIONS = ["", [], 1, {}, A_DESTINATION["Arn"], {"Arn": None}, {"Arn": "default"}, {"Arn": 1}, {"Arn": BUS_ARN}, {"Arn": BUS_ARN + "a/b"}]
+BAD_DESTINATIONS += [{**A_DESTINATION, "FilterArns": it} for it in ("", {}, 1, ["r"], [None], [1], [RULE_ARN], [RULE_ARN + "b/r"], [RULE_ARN + "r", ""])]
+BAD_DESTINATIONS += [{"Arn": BUS_ARN + "b", "FilterArns": [it]} for it in (RULE_ARN + "r", RULE_ARN + "c/r", RULE_ARN + "b/", RULE_ARN + "b/r r")]
 BAD_BUS_NAMES = ["", "a/b", "b" * 257, "é", BUS_ARN + "orders", 1, []]
 # By the member, or by the action and the member.
 BAD_VALUES = {
@@ -460,13 +510,20 @@ BAD_VALUES = {
     "EventSourceArn": BAD_SOURCES,
     ("AWSEvents.ListArchives", "EventSourceArn"): BAD_TEXTS,
     ("AWSEvents.ListArchives", "State"): ["", "enabled", "RUNNING", "ENABLED ", 1, ["ENABLED"], True],
+    "ReplayName": BAD_NAMES,
+    ("AWSEvents.StartReplay", "EventSourceArn"): BAD_ARCHIVES,
+    "EventStartTime": [*NO_TIMES, True, [], {}],
+    "EventEndTime": [*NO_TIMES, False, [0], {}],
+    "Destination": BAD_DESTINATIONS,
+    ("AWSEvents.ListReplays", "EventSourceArn"): BAD_TEXTS,
+    ("AWSEvents.ListReplays", "State"): ["", "running", "ENABLED", "RUNNING ", 1, ["RUNNING"], True],
     "RetentionDays": [-1, DAYS_LIMIT + 1, 2**32, 2**64, Number("-0"), Number("1.0"), Number("1e1"), "1", True, [1], {}],
     "Through": [-1, LAST_NUMBER + 1, 2**64, Number("-0"), Number("1.0"), Number("1e1"), "1", True, [1], {}],
 }
 IGNORED = [{"NextToken": "x"}, {"Force": True}, {"Limit": 1}, {"Limit": "x", "Force": [], "NextToken": None}]
 IGNORED += [{"Description": "x", "RoleArn": 1}, {"Tags": [{}]}]
 UNKNOWN = ["RouterLocal.EmptyQueue", "AWSEvents.DutyCounts", "AWSEvents.putEvents", "PutEvents", "", "RouterLocal.DescribeRule"]
-UNKNOWN += ["AWSEvents.StartReplay", "RouterLocal.CreateArchive", "AWSEvents.CreateQueue", None]
+UNKNOWN += ["RouterLocal.StartReplay", "AWSEvents.StepReplays", "RouterLocal.CreateArchive", "AWSEvents.CreateQueue", None]
 
 
 def spoil_members(action, members, chance):
@@ -526,11 +583,16 @@ ACTIONS = {
     "AWSEvents.DeleteArchive": (of_archive, 2),
     "AWSEvents.DescribeArchive": (of_archive, 4),
     "AWSEvents.ListArchives": (list_archives, 3),
+    "AWSEvents.StartReplay": (start_replay, 4),
+    "AWSEvents.CancelReplay": (cancel_replay, 2),
+    "AWSEvents.DescribeReplay": (of_replay, 3),
+    "AWSEvents.ListReplays": (list_replays, 2),
     "RouterLocal.CreateQueue": (create_queue, 4),
     "RouterLocal.DeleteQueue": (delete_queue, 2),
     "RouterLocal.PeekMessages": (peek_messages, 4),
     "RouterLocal.DeleteMessages": (delete_messages, 3),
     "RouterLocal.DeliverDue": (deliver_due, 9),
+    "RouterLocal.StepReplays": (step_replays, 5),
     "RouterLocal.DutyCounts": (duty_counts, 1),
 }
 NAMES, WEIGHTS = list(ACTIONS), [weight for _, weight in ACTIONS.values()]
@@ -766,6 +828,64 @@ def events_in_archives(router, chance):
         yield made("DescribeArchive", {"ArchiveName": name})
         yield made("DeleteArchive", {"ArchiveName": name})
     yield made("DeleteEventBus", {"Name": "archived"})
+
+
+def replays_of_archives(router, chance):
+    """Replays of one archive: which events they repeat, in which order and for which rules; their states, and how many may run."""
+    own = ["CreateQueue", "DeliverDue", "PeekMessages", "StepReplays"]
+
+    def made(action, members):
+        return request_of(f"{'RouterLocal' if action in own else 'AWSEvents'}.{action}", members, chance, 3_000)
+
+    def started(name, first, last, bus="replayed", **rules):
+        members = {"ReplayName": name, "EventSourceArn": ARCHIVE_ARN + "replayed", "EventStartTime": first, "EventEndTime": last}
+        return made("StartReplay", {**members, "Destination": {"Arn": BUS_ARN + bus, **rules}})
+
+    def stepped(name, most):
+        yield made("StepReplays", {} if most is None else {"Budget": most})
+        yield made("DescribeReplay", {"ReplayName": name})
+        yield from all_that_is_due(router, chance)
+        yield made("PeekMessages", {"QueueName": "replayed", "Limit": 1_000})
+
+    for it in router.running:
+        yield made("CancelReplay", {"ReplayName": it.name})
+    yield made("CreateQueue", {"QueueName": "replayed"})
+    yield made("CreateEventBus", {"Name": "replayed"})
+    for name, pattern in (("all", '{"source":["a"]}'), ("new", '{"replay-name":[{"exists":false}]}'), ("old", '{"replay-name":[{"prefix":"p"}]}')):
+        yield made("PutRule", {"Name": name, "EventPattern": pattern, "EventBusName": "replayed"})
+        targets = [{"Id": it, "Arn": QUEUE_ARN + "replayed", **more} for it, more in (("1", {}), ("2", {"InputPath": "$.source"}))]
+        yield made("PutTargets", {"Rule": name, "EventBusName": "replayed", "Targets": targets})
+    yield made("CreateArchive", {"ArchiveName": "replayed", "EventSourceArn": BUS_ARN + "replayed"})
+    times = [6_000, 5_000, 6_000, 5_000, 6_001, "1970-01-01T01:23:20Z"]
+    yield made("PutEvents", {"Entries": [{**AN_ENTRY, "Time": it, "EventBusName": "replayed"} for it in times]})
+    yield from all_that_is_due(router, chance)
+    yield started("f", 6_000, 5_000)
+    yield started("f", 5_000, 6_000, "default")
+    yield started("p", 5_000, 6_000)
+    yield started("p", 5_000, 6_000)
+    for most in (1, 2, None, 1):
+        yield from stepped("p", most)
+    yield made("CancelReplay", {"ReplayName": "p"})
+    yield made("CancelReplay", {"ReplayName": "none"})
+    for name, rules in (("q", ["all"]), ("p.none", []), ("p.old", ["old", "none"])):
+        yield started(name, 6_001, 6_001, FilterArns=[f"{RULE_ARN}replayed/{it}" for it in rules])
+        yield from stepped(name, None)
+    for at in range(RUNNING_LIMIT):
+        yield started(f"run.{at}", 0, 9_000)
+    yield started("one-more", 1, 2)
+    yield from stepped("run.0", 7)
+    yield made("ListReplays", {"NamePrefix": "run."})
+    yield started("one-more", 1, 2)
+    yield made("DeleteArchive", {"ArchiveName": "replayed"})
+    for name in ("all", "new", "old"):
+        yield made("RemoveTargets", {"Rule": name, "EventBusName": "replayed", "Ids": ["1", "2"]})
+        yield made("DeleteRule", {"Name": name, "EventBusName": "replayed"})
+    yield from stepped("run.1", None)
+    yield made("DeleteEventBus", {"Name": "replayed"})
+    for it in router.running:
+        yield made("CancelReplay", {"ReplayName": it.name})
+    yield made("DeleteEventBus", {"Name": "replayed"})
+    yield made("ListReplays", {"EventSourceArn": ARCHIVE_ARN + "replayed"})
 
 
 # ---- Requests that reach the limits

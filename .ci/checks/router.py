@@ -18,11 +18,12 @@ from patterns import Fault, Number, holds, read_json, read_pattern, spelled
 
 OWNER = "111122223333"
 EVENTS_ARN = f"arn:aws:events:us-east-1:{OWNER}:"
-BUSES_LIMIT, RULES_LIMIT, TARGETS_LIMIT, QUEUES_LIMIT, ARCHIVES_LIMIT = 100, 300, 5, 1_000, 100
+BUSES_LIMIT, RULES_LIMIT, TARGETS_LIMIT, QUEUES_LIMIT, ARCHIVES_LIMIT, RUNNING_LIMIT = 100, 300, 5, 1_000, 100, 10
 DAYS_LIMIT = 2**31 - 1
 DAY = 86_400
 ARCHIVE_STATES = ["ENABLED", "DISABLED", "CREATING", "UPDATING", "CREATE_FAILED", "UPDATE_FAILED"]
-A_CALL = 100  # attempts of one DeliverDue, if it has no Budget
+REPLAY_STATES = ["STARTING", "RUNNING", "CANCELLING", "COMPLETED", "CANCELLED", "FAILED"]
+A_CALL = 100  # attempts of one DeliverDue and steps of one StepReplays, if it has no Budget
 A_CALL_MOST = 1_000
 PEEKED = 10  # messages that one PeekMessages shows, if it has no Limit
 PEEKED_MOST = 1_000
@@ -106,6 +107,31 @@ def a_bus_arn(value):
     """The name of a bus that is named by its ARN."""
     need(isinstance(value, str) and value.startswith(EVENTS_ARN + "event-bus/"))
     return a_bus(value)
+
+
+def an_archive_arn(value):
+    """The name of an archive that is named by its ARN."""
+    need(isinstance(value, str) and value.startswith(EVENTS_ARN + "archive/"))
+    return an_archive_name(value.removeprefix(EVENTS_ARN + "archive/"))
+
+
+def a_time(value):
+    """The moment of a Time."""
+    moment = moment_of(value) if is_number(value) or isinstance(value, str) else None
+    need(moment is not None)
+    return moment
+
+
+def a_destination(value):
+    """The name of the bus, and the names of the rules of the filter, or None without one."""
+    given = without_null(value)
+    bus = a_bus_arn(given.get("Arn"))
+    rules = given.get("FilterArns")
+    if rules is None:
+        return bus, None
+    prefix = EVENTS_ARN + "rule/" + ("" if bus == "default" else bus + "/")
+    need(isinstance(rules, list) and all(isinstance(it, str) and it.startswith(prefix) for it in rules))
+    return bus, [a_name(it.removeprefix(prefix)) for it in rules]
 
 
 def a_pattern(value):
@@ -295,7 +321,7 @@ class Archive:
     def __init__(self, name, bus, days, created):
         self.name, self.bus, self.days, self.created = name, bus, days, created
         self.text = self.pattern = None
-        self.kept = []  # of each event: the moment at which it was accepted, and the bytes of its text
+        self.kept = []  # of each event: the moment at which it was accepted, its time, its number and its text
 
     def made(self):
         """What a reply shows of an archive that is created or updated."""
@@ -307,10 +333,49 @@ class Archive:
 
     def shown(self, moment, more):
         """What a list shows at a moment, with some members more after the name and the source."""
-        sizes = [size for _, size in self.retained(moment)]
+        sizes = [len(text.encode()) for *_, text in self.retained(moment)]
         counts = {"RetentionDays": self.days, "SizeBytes": sum(sizes), "EventCount": len(sizes)}
         source = {"ArchiveName": self.name, "EventSourceArn": self.bus.arn}
         return {**source, **more, "State": "ENABLED", **counts, "CreationTime": self.created}
+
+
+class Replay:
+    def __init__(self, given, archive, started):
+        self.name, self.archive, self.started = given["ReplayName"], archive.name, started
+        self.bus, self.rules = given["Destination"]
+        self.range = given["EventStartTime"], given["EventEndTime"]
+        # Sorting keeps the order of those that have one time.
+        self.left = sorted((it for it in archive.retained(started) if self.range[0] <= it[1] <= self.range[1]), key=lambda it: it[1])
+        self.last = None
+        self.state, self.ended = "RUNNING", None
+        self.note_end(started)
+
+    def note_end(self, moment):
+        if not self.left and self.state == "RUNNING":
+            self.state, self.ended = "COMPLETED", moment
+
+    def cancel(self, moment):
+        self.left, self.state, self.ended = [], "CANCELLED", moment
+
+    @property
+    def arn(self):
+        return f"{EVENTS_ARN}replay/{self.name}"
+
+    @property
+    def source(self):
+        return f"{EVENTS_ARN}archive/{self.archive}"
+
+    @property
+    def times(self):
+        times = {"EventStartTime": self.range[0], "EventEndTime": self.range[1], "EventLastReplayedTime": self.last}
+        times = {**times, "ReplayStartTime": self.started, "ReplayEndTime": self.ended}
+        return {key: it for key, it in times.items() if it is not None}
+
+    @property
+    def destination(self):
+        bus = "" if self.bus == "default" else self.bus + "/"
+        rules = {} if self.rules is None else {"FilterArns": [f"{EVENTS_ARN}rule/{bus}{it}" for it in self.rules]}
+        return {"Arn": f"{EVENTS_ARN}event-bus/{self.bus}", **rules}
 
 
 def no_answer(_endpoint, _text):
@@ -325,6 +390,7 @@ class Router:
         self.caller = OWNER  # of the request that is being answered
         self.buses = {"default": Bus("default")}
         self.archives = {}
+        self.replays = {}  # in the order of their starts; none is ever gone
         self.deliveries = Deliveries(link)
         self.events = 0
         self.causes = set()  # the action and the cause of each refusal so far
@@ -381,6 +447,15 @@ class Router:
             raise missing("Archive", name)
         return self.archives[name]
 
+    def replay(self, name):
+        if name not in self.replays:
+            raise missing("Replay", name)
+        return self.replays[name]
+
+    @property
+    def running(self):
+        return [it for it in self.replays.values() if it.state == "RUNNING"]
+
     @property
     def queues(self):
         return self.deliveries.queues
@@ -410,7 +485,8 @@ class Router:
         name = given["Name"]
         if name == "default":
             raise Refusal(VALIDATION, "The default bus stays.")
-        if self.bus(name).rules or any(it.bus.name == name for it in self.archives.values()):
+        users = [it.bus.name for it in self.archives.values()] + [it.bus for it in self.running]
+        if self.bus(name).rules or name in users:
             raise Refusal(VALIDATION, "Event bus {} is in use.", name)
         del self.buses[name]
         return {}
@@ -559,6 +635,58 @@ class Router:
             found = [it for it in found if given["State"] == "ENABLED"]
         return {"Archives": [it.shown(self.moment, {}) for it in found]}
 
+    # -- Replays
+
+    def start_replay(self, given):
+        name = given["ReplayName"]
+        if name in self.replays:
+            raise Refusal(EXISTS, "Replay {} already exists.", name)
+        archive = self.archive(given["EventSourceArn"])
+        if given["Destination"][0] != archive.bus.name:
+            raise Refusal(VALIDATION, "Destination is not the archive's bus.")
+        if given["EventEndTime"] < given["EventStartTime"]:
+            raise Refusal(VALIDATION, "The range is empty.")
+        if len(self.running) >= RUNNING_LIMIT:
+            raise Refusal(LIMIT, "Replay limit 10 reached.")
+        self.replays[name] = made = Replay(given, archive, self.moment)
+        return {"ReplayArn": made.arn, "State": made.state, "ReplayStartTime": made.started}
+
+    def cancel_replay(self, given):
+        replay = self.replay(given["ReplayName"])
+        if replay.state != "RUNNING":
+            raise Refusal("IllegalStatusException", "Replay {} is not running.", replay.name)
+        replay.cancel(self.moment)
+        return {"ReplayArn": replay.arn, "State": replay.state}
+
+    def describe_replay(self, given):
+        it = self.replay(given["ReplayName"])
+        state = {"ReplayName": it.name, "ReplayArn": it.arn, "State": it.state}
+        return {**state, "EventSourceArn": it.source, "Destination": it.destination, **it.times}
+
+    def list_replays(self, given):
+        found = in_order(self.replays, given["NamePrefix"])
+        if given["EventSourceArn"] is not None:
+            found = [it for it in found if it.source == given["EventSourceArn"]]
+        if given["State"] is not None:
+            found = [it for it in found if it.state == given["State"]]
+        return {"Replays": [{"ReplayName": it.name, "EventSourceArn": it.source, "State": it.state, **it.times} for it in found]}
+
+    def step_replays(self, given):
+        steps = 0
+        while steps < (given["Budget"] or A_CALL) and self.running:
+            self.step_replay(self.running[0])
+            steps += 1
+        return {"Steps": steps}
+
+    def step_replay(self, replay):
+        """Publishes the replay's next event again, to the rules of its bus and of its filter."""
+        _, replay.last, _, text = replay.left.pop(0)
+        replay.note_end(self.moment)
+        text = f'{text[:-1]},"replay-name":{compact(replay.name)}}}'
+        made, _ = read_json(text)
+        rules = in_order(self.bus(replay.bus).rules)
+        self.owe([it for it in rules if replay.rules is None or it.name in replay.rules], made, text)
+
     # -- Events
 
     def test_event_pattern(self, given):
@@ -621,14 +749,18 @@ class Router:
         made["detail"] = detail.tree
         archives = [it for it in in_order(self.archives) if it.bus is bus and (it.pattern is None or holds(it.pattern, made))]
         for it in archives:
-            it.kept.append((self.moment, len(text.encode())))
+            it.kept.append((self.moment, self.time_of(entry), self.events, text))
         self.accept(bus, entry, text, [it.name for it in archives])
-        for rule in in_order(bus.rules):
+        self.owe(in_order(bus.rules), made, text)
+        return made["id"]
+
+    def owe(self, rules, made, text):
+        """Makes a delivery for each target of those of the rules that match."""
+        for rule in rules:
             if rule.is_enabled and rule.targets and holds(rule.pattern, made):
                 for target in in_order(rule.targets):
                     sent = target.make_text(made, rule.arn, shown(self.moment)) if target.make_text else text
                     self.deliveries.add(Delivery(rule.arn, target, sent, self.moment))
-        return made["id"]
 
     def time_of(self, entry):
         return moment_of(entry["Time"]) if "Time" in entry else self.reading
@@ -742,6 +874,7 @@ def moment_of(value):
 
 ON_BUS = ("EventBusName", False, a_bus)
 AN_ARCHIVE = ("ArchiveName", True, an_archive_name)
+A_REPLAY = ("ReplayName", True, a_name)
 A_PATTERN = ("EventPattern", False, a_pattern)
 DAYS = ("RetentionDays", False, a_count(0, DAYS_LIMIT))
 CALLS = {
@@ -791,6 +924,22 @@ CALLS = {
         Router.list_archives,
         [("NamePrefix", False, a_text()), ("EventSourceArn", False, a_text()), ("State", False, one_of(*ARCHIVE_STATES))],
     ),
+    "AWSEvents.StartReplay": (
+        Router.start_replay,
+        [
+            A_REPLAY,
+            ("EventSourceArn", True, an_archive_arn),
+            ("EventStartTime", True, a_time),
+            ("EventEndTime", True, a_time),
+            ("Destination", True, a_destination),
+        ],
+    ),
+    "AWSEvents.CancelReplay": (Router.cancel_replay, [A_REPLAY]),
+    "AWSEvents.DescribeReplay": (Router.describe_replay, [A_REPLAY]),
+    "AWSEvents.ListReplays": (
+        Router.list_replays,
+        [("NamePrefix", False, a_text()), ("EventSourceArn", False, a_text()), ("State", False, one_of(*REPLAY_STATES))],
+    ),
     "AWSEvents.PutEvents": (Router.put_events, [("Entries", True, some_entries)]),
     "RouterLocal.CreateQueue": (Router.create_queue, [("QueueName", True, a_queue_name)]),
     "RouterLocal.DeleteQueue": (Router.delete_queue, [("QueueName", True, a_queue_name)]),
@@ -800,6 +949,7 @@ CALLS = {
         [("QueueName", True, a_queue_name), ("Through", True, a_count(0, LAST_NUMBER))],
     ),
     "RouterLocal.DeliverDue": (Router.deliver_due, [("Budget", False, a_count(1, A_CALL_MOST))]),
+    "RouterLocal.StepReplays": (Router.step_replays, [("Budget", False, a_count(1, A_CALL_MOST))]),
     "RouterLocal.DutyCounts": (Router.duty_counts, []),
 }
 BY_POLICY = [ON_BUS, ("Policy", True, a_text()), ("Condition", False, nothing)]  # of a PutPermission with a Policy

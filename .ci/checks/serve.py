@@ -821,11 +821,12 @@ def shows_the_time(target):
 
 
 MODEL_NOW = 1_700_000_000
-CREATION = re.compile(rb'"CreationTime":([0-9]{10})')
+MADE_AT = re.compile(rb'"(CreationTime|ReplayStartTime|ReplayEndTime)":([0-9]{10})')
 
 
 def mixed_exchanges():
-    """Requests of all kinds, each with the model's reply; then what the model's archives keep, each event once for each of its archives."""
+    """Requests of all kinds, each with the model's reply; then what the model's archives keep, each event once for each of its archives, and
+    how many replays were started."""
     router, chance = Router(MODEL_NOW), random.Random(SEED)
 
     def requests():
@@ -839,21 +840,22 @@ def mixed_exchanges():
         request = settled(request, chance)
         status, body = router.answer(request.method, request.action, request.caller, request.value)
         exchanges.append((request, status, body.encode()))
-    return exchanges, sum(len(it.kept) for it in router.archives.values())
+    return exchanges, sum(len(it.kept) for it in router.archives.values()), len(router.replays)
 
 
 def mixed_requests_over_tcp():
-    """The replies are the model's, with which mixed.py compares those of `once`. The one worker makes no delivery by itself while
-    the client is served, so each reply follows from the requests before it, but for the times at which archives were created."""
-    exchanges, archived = mixed_exchanges()
+    """The replies are the model's, with which mixed.py compares those of `once`. The one worker makes no delivery and steps no replay by itself
+    while the client is served, so each reply follows from the requests before it, but for the times at which archives were created, and at
+    which replays were started and ended."""
+    exchanges, archived, replays = mixed_exchanges()
     refused = sum(status == 400 for _, status, _ in exchanges)
     if not len(exchanges) / 10 < refused < len(exchanges) * 9 / 10:
         raise Failure(f"{refused} of {len(exchanges)} requests are refused: the run is not mixed")
-    asked, counts, created = queue.Queue(), {}, []
+    asked, counts, made = queue.Queue(), {}, []
 
     def at_one_time(body):
-        created.extend(map(int, CREATION.findall(body)))
-        return CREATION.sub(b'"CreationTime":%d' % MODEL_NOW, body)
+        made.extend(int(at) for _, at in MADE_AT.findall(body))
+        return MADE_AT.sub(rb'"\1":%d' % MODEL_NOW, body)
 
     for exchange in [*exchanges, None]:
         asked.put(exchange)
@@ -869,12 +871,12 @@ def mixed_requests_over_tcp():
         together([send, lambda: compare(client.file, asked, counts, at_one_time)])
         if time.monotonic() - began > 55:
             raise Failure("the run took more than 55 s: a delivery may have become too old")
-        if not first <= min(created) <= max(created) <= time.time():
-            raise Failure(f"archives were created at {min(created)} to {max(created)}, and the run began at {first}")
+        if not first <= min(made) <= max(made) <= time.time():
+            raise Failure(f"archives and replays were made at {min(made)} to {max(made)}, and the run began at {first}")
         output, status = it.over()
         expect("the status", status, 0)
         events = sum(body.count(b'"EventId"') for _, _, body in exchanges)
-        expect("the summary's events", output.splitlines()[1], b"events %d archived %d replays 0" % (events, archived))
+        expect("the summary's events", output.splitlines()[1], b"events %d archived %d replays %d" % (events, archived, replays))
 
 
 # ---- Real clients

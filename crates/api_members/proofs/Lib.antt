@@ -19,3 +19,4 @@ pub mod PolicyLemmas
 pub mod CheckedLemmas
 pub mod TextLemmas
 pub mod ArnLemmas
+pub mod TimeLemmas

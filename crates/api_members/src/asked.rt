@@ -16,6 +16,10 @@ pub enum Syntax {
     BusArn,
     /// The name of an archive.
     ArchiveName,
+    /// The ARN of an archive.
+    ArchiveArn,
+    /// The name of a replay.
+    ReplayName,
     /// Any text.
     AnyText,
     /// The ARN of a queue, or an endpoint.
@@ -28,6 +32,12 @@ pub enum Syntax {
     State,
     /// The state of an archive, one of six.
     ArchiveState,
+    /// The state of a replay, one of six.
+    ReplayState,
+    /// A time, as that of an entry.
+    Time,
+    /// The destination of a replay: an object with the ARN of a bus, and perhaps with ARNs of rules of that bus.
+    Destination,
     /// A whole number from `least` to `most`, both included.
     Count { least: u64, most: u64 },
     /// 1 to 10 entries of a PutEvents.

@@ -14,6 +14,7 @@ use crate::event::read_event;
 use crate::fault::CallFault;
 use crate::json_type::is_text;
 use crate::members::given;
+use crate::replay::{is_arn_of_archive, is_destination, is_replay, is_replay_state, is_time};
 use crate::value::{
     are_entries, are_ids, are_targets, is_archive, is_archive_state, is_arn_of_bus, is_bus,
     is_named_bus, is_principal, is_put_events, is_queue, is_rule, is_sid, is_state, is_target_arn,
@@ -72,12 +73,17 @@ fn check_value(alloc: Global, member: Member, syntax: Syntax, value: &Json) -> R
         Syntax::Bus => valid_if(is_bus(value), member),
         Syntax::BusArn => valid_if(is_arn_of_bus(value), member),
         Syntax::ArchiveName => valid_if(is_archive(value), member),
+        Syntax::ArchiveArn => valid_if(is_arn_of_archive(value), member),
+        Syntax::ReplayName => valid_if(is_replay(value), member),
         Syntax::AnyText => valid_if(is_text(value), member),
         Syntax::TargetArn => valid_if(is_target_arn(alloc, value)?, member),
         Syntax::Pattern => check_pattern(alloc, member, value),
         Syntax::Event => check_event(alloc, member, value),
         Syntax::State => valid_if(is_state(value), member),
         Syntax::ArchiveState => valid_if(is_archive_state(value), member),
+        Syntax::ReplayState => valid_if(is_replay_state(value), member),
+        Syntax::Time => valid_if(is_time(value), member),
+        Syntax::Destination => valid_if(is_destination(value), member),
         Syntax::Count { least, most } => {
             valid_if(count_of(value, least, most).is_some(), member)
         }

@@ -11,6 +11,7 @@ mod fault;
 mod json_type;
 mod laws;
 mod members;
+mod replay;
 mod target;
 mod value;
 mod why;
@@ -24,6 +25,7 @@ pub use event::read_event;
 pub use fault::CallFault;
 pub use laws::one_first_refusal;
 pub use members::{given, members_in, text_given, text_of, values_in};
+pub use replay::{archive_of_source, destination_of, filter_given, time_given};
 pub use target::{
     age_given, attempts_given, read_dead_letter, read_input, read_input_path, read_transformer,
 };

@@ -94,7 +94,8 @@ pub fn values_in<'m>(members: &'m [(Text, Json)], member: Member) -> &'m [Json]
     }
 }
 
-fn list_or_none(value: &Json) -> &[Json]
+/// The values of a list; none if the value is no list.
+pub(crate) fn list_or_none(value: &Json) -> &[Json]
     ensures { trees_of result.now ≡ unwrap_or (spec.list_in (tree_of value.now)) [] }
 {
     match list_in(value) {

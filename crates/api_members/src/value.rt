@@ -104,10 +104,14 @@ pub(crate) fn is_arn_of_bus(value: &Json) -> bool
 fn gives_bus_arn(text: &str) -> bool
     ensures { IsTrue result ↔ spec.GivesBusArn text.now }
 {
-    match bus_of_arn(text) {
-        Some(_) => true,
-        None => false,
-    }
+    bus_in_arn(text).is_some()
+}
+
+/// The name of the bus whose ARN the text is.
+pub(crate) fn bus_in_arn(text: &str) -> Option<&str>
+    ensures { MatchOption result (spec.bus_of_source text.now ≡ None) (λ bus. spec.bus_of_source text.now ≡ Some bus.now) }
+{
+    bus_of_arn(text)
 }
 
 /// The name of the bus whose ARN the member gives.
@@ -116,7 +120,7 @@ pub fn bus_of_source(members: &[(Text, Json)], member: Member) -> Option<&str>
         (spec.bus_of_source (text_of member (members_of (pairs_of members.now))) ≡ None)
         (λ bus. spec.bus_of_source (text_of member (members_of (pairs_of members.now))) ≡ Some bus.now) }
 {
-    bus_of_arn(text_of(members, member))
+    bus_in_arn(text_of(members, member))
 }
 
 pub(crate) fn is_archive(value: &Json) -> bool

@@ -8,7 +8,8 @@ use Rattle.std.proofs.lemmas.Bool.{and_parts}
 use Rattle.std.proofs.lemmas.Bool.Decides.{nat_tests}
 use Rattle.std.proofs.lemmas.List.{length-map}
 use Rattle.std.proofs.lemmas.List.Elements.{All-nil, All-cons}
-use Rattle.json_text.specs.Tree.{Tree, text, Members}
+use Rattle.json_text.specs.Moment.{IsMoment}
+use Rattle.json_text.specs.Tree.{Tree, number, text, Members}
 use Rattle.json_text.specs.Compact.{IsValue, compact_text}
 use Rattle.json_text.specs.Access.{text_in}
 use Rattle.json_text.specs.Checks.{else_fault}
@@ -31,8 +32,8 @@ use Rattle.rule_targets.specs.Target.{IsAskedAs, IsValidRead, HasValidReads}
 use Rattle.rule_targets.specs.Checks.{IsTargetArn}
 use Rattle.rule_table.specs.WellFormed.{most_days, IsNoneOrPattern}
 use Rattle.rule_targets.specs.WellFormed.{names_rule, NamesRule, are_few as is_count_few, are_ids_formed}
-use Rattle.router_core.specs.Request.{Action, remove_policy, remove_statement, delete_messages, Request}
-use Rattle.router_core.specs.Bounds.{IsForBus, IsStatementIdIfGiven, IsBounded}
+use Rattle.router_requests.specs.Request.{Action, remove_policy, remove_statement, delete_messages, Request}
+use Rattle.router_requests.specs.Bounds.{IsForBus, IsStatementIdIfGiven, IsBounded}
 use Rattle.api_replies.specs.declared.member.Member.{Member}
 use Rattle.api_replies.specs.declared.member.Member.TheVariants as member
 use Rattle.api_replies.specs.declared.cause.Cause.TheVariants as cause
@@ -47,8 +48,9 @@ use Rattle.api_members.specs.CheckedEntry.{IsChecked, AreChecked}
 use Rattle.api_members.specs.Target.{is_target, input_given, path_given, transformer_given}
 use Rattle.api_members.specs.Count.{count_given}
 use Rattle.api_members.specs.Value.{GivesBusArn, IsGrantee, is_id, are_few, is_list_of, bus_of_source, bus_or_default, IsValid}
+use Rattle.api_members.specs.Value.{destination_of, filter_given, filter_in, names_of_rules, IsTimeGiven}
 use Rattle.api_members.specs.Refusal.{value_check, IsSoundMember, AreSound}
-use Rattle.api_members.proofs.ArnLemmas.{source_of}
+use Rattle.api_members.proofs.ArnLemmas.{archive_found, bus_found, rules_found}
 use Rattle.api_members.proofs.CheckedLemmas.{checked_len}
 use Rattle.api_members.proofs.CountLemmas.{within_limits}
 use Rattle.api_members.proofs.TextLemmas.{valid_text, pattern_text, event_is_value}
@@ -58,9 +60,10 @@ use Rattle.api_wire.specs.declared.call.operation.Operation.TheVariants.{PutRule
 use Rattle.api_wire.specs.declared.call.operation.Operation.TheVariants.{PutTargets, RemoveTargets, ListTargetsByRule, ListRuleNamesByTarget}
 use Rattle.api_wire.specs.declared.call.operation.Operation.TheVariants.{PutPermission, RemovePermission, PutEvents, TestEventPattern}
 use Rattle.api_wire.specs.declared.call.operation.Operation.TheVariants.{CreateArchive, UpdateArchive, DeleteArchive, DescribeArchive, ListArchives}
+use Rattle.api_wire.specs.declared.call.operation.Operation.TheVariants.{StartReplay, CancelReplay, DescribeReplay, ListReplays, StepReplays}
 use Rattle.api_wire.specs.declared.call.operation.Operation.TheVariants.{CreateQueue, DeleteQueue, PeekMessages, DeleteMessages, DeliverDue, DutyCounts}
 use Rattle.api_wire.specs.Call.{caller_of, asked, permission_asked, bus_named, event_bus, account_in, IsStoredAs, removes_all, AreTargets, days_given, creation_in, action_in, IsPermission}
-use Rattle.api_wire.specs.Call.{IsAction, IsAsked}
+use Rattle.api_wire.specs.Call.{IsAction, IsAsked, IsStartGiven}
 
 -- `default` is a bus's name
 default_is_name : IsBusName default_bus
@@ -89,8 +92,19 @@ queue_name ms sound = valid_text IsQueueName syntax.QueueName member.QueueName (
 archive_name : (ms : Members) → IsSoundMember (Required member.ArchiveName syntax.ArchiveName) ms → IsArchiveName (text_of member.ArchiveName ms)
 archive_name ms sound = valid_text IsArchiveName syntax.ArchiveName member.ArchiveName (given member.ArchiveName ms) (λ t is. is) sound
 
+replay_name : (ms : Members) → IsSoundMember (Required member.ReplayName syntax.ReplayName) ms → IsShortName (text_of member.ReplayName ms)
+replay_name ms sound = valid_text IsShortName syntax.ReplayName member.ReplayName (given member.ReplayName ms) (λ t is. is) sound
+
 pub source_arn : (ms : Members) → IsSoundMember (Required member.EventSourceArn syntax.BusArn) ms → GivesBusArn (text_of member.EventSourceArn ms)
 source_arn ms sound = valid_text GivesBusArn syntax.BusArn member.EventSourceArn (given member.EventSourceArn ms) (λ t is. is) sound
+
+time_in : (m : Member) (v : Option Tree) → (value_check (else_fault ⊥ (cause.Required m)) syntax.Time m v).holds → (moment : ℕ) × IsTimeGiven v moment
+time_in m None valid = absurd valid
+time_in m (Some tree) valid = valid
+
+-- the moment of a time that is asked
+pub time_there : (m : Member) (ms : Members) → IsSoundMember (Required m syntax.Time) ms → (moment : ℕ) × IsTimeGiven (given m ms) moment
+time_there m ms sound = time_in m (given m ms) sound
 
 target_arn : (ms : Members) → IsSoundMember (Required member.TargetArn syntax.TargetArn) ms → IsTargetArn (text_of member.TargetArn ms)
 target_arn ms sound = valid_text IsTargetArn syntax.TargetArn member.TargetArn (given member.TargetArn ms) (λ t is. is) sound
@@ -260,14 +274,50 @@ days_bounds ms =
 
 creation_bounded : (ms : Members) → AreSound (asked CreateArchive ms) ms
     → IfSome (option_map (creation_in ms) (bus_of_source (text_of member.EventSourceArn ms))) IsBounded
-creation_bounded ms sound =
-    let name = text_of member.ArchiveName ms in
-    let days = unwrap_or (days_given ms) 0 in
-    let (bus, is) = source_arn ms sound.1.0 in
-    let formed = both (is_archive_name name) (is_bus_name bus && nat_le days most_days) (archive_name ms sound.0)
-    (both (is_bus_name bus) (nat_le days most_days) is.0 (days_bounds ms)) in
-    subst (λ o. IfSome (option_map (creation_in ms) o) IsBounded) (sym (source_of (text_of member.EventSourceArn ms) bus is))
-    (formed, pattern_if_given (given member.EventPattern ms) sound.1.1.0)
+creation_bounded ms sound = by (bus_of_source (text_of member.EventSourceArn ms)) refl
+  where
+    by : (o : Option (List ℕ)) → bus_of_source (text_of member.EventSourceArn ms) ≡ o → IfSome (option_map (creation_in ms) o) IsBounded
+    by None is = tt
+    by (Some bus) is =
+        let days = unwrap_or (days_given ms) 0 in
+        let formed = both (is_archive_name (text_of member.ArchiveName ms)) (is_bus_name bus && nat_le days most_days) (archive_name ms sound.0)
+        (both (is_bus_name bus) (nat_le days most_days) (bus_found (text_of member.EventSourceArn ms) bus is) (days_bounds ms)) in
+        (formed, pattern_if_given (given member.EventPattern ms) sound.1.1.0)
+
+-- the moment of a time that is given
+time_bounds : (v : Option Tree) (moment : ℕ) → IsTimeGiven v moment → IsMoment moment
+time_bounds None moment is = absurd is
+time_bounds (Some (number spelling)) moment is = is.0
+time_bounds (Some (text t)) moment is = is.0
+time_bounds (Some other) moment is = absurd is
+
+-- the bus of a destination
+destination_bus : (v : Option Tree) (bus : List ℕ) → option_and_then destination_of v ≡ Some bus → IsBusName bus
+destination_bus None bus is = absurd (cc)
+destination_bus (Some tree) bus is = by_arn (text_given member.Arn (members_in tree)) is
+  where
+    by_arn : (o : Option (List ℕ)) → option_and_then bus_of_source o ≡ Some bus → IsBusName bus
+    by_arn None is = absurd (cc)
+    by_arn (Some t) is = bus_found t bus is
+
+-- the rules of its filter
+filter_bounds : (bus : List ℕ) (v : Option Tree) → IfSome (option_and_then (filter_given bus) v) (All IsShortName)
+filter_bounds bus None = tt
+filter_bounds bus (Some tree) = by_filter (filter_in tree)
+  where
+    by_filter : (o : Option Tree) → IfSome (option_map (λ filter. names_of_rules bus (unwrap_or (list_in filter) [])) o) (All IsShortName)
+    by_filter None = tt
+    by_filter (Some filter) = rules_found bus (unwrap_or (list_in filter) [])
+
+start_bounded : (ms : Members) (a : Action) → AreSound (asked StartReplay ms) ms → IsStartGiven ms a → IsBounded a
+start_bounded ms a sound s = rw s.is record {
+  name = replay_name ms sound.0;
+  archive = archive_found (text_of member.EventSourceArn ms) s.archive s.archive_is;
+  bus_name = destination_bus (given member.Destination ms) s.bus s.bus_is;
+  start = time_bounds (given member.EventStartTime ms) s.start s.start_is;
+  end = time_bounds (given member.EventEndTime ms) s.end s.end_is;
+  rules = filter_bounds s.bus (given member.Destination ms);
+}
 
 -- each operation whose action is a function of its members
 bounded : (operation : Operation) (ms : Members) → AreSound (asked operation ms) ms → IfSome (action_in operation ms) IsBounded
@@ -296,6 +346,9 @@ bounded UpdateArchive ms sound = (
 bounded DeleteArchive ms sound = (archive_name ms sound.0, tt)
 bounded DescribeArchive ms sound = archive_name ms sound.0
 bounded ListArchives ms sound = tt
+bounded CancelReplay ms sound = replay_name ms sound.0
+bounded DescribeReplay ms sound = replay_name ms sound.0
+bounded ListReplays ms sound = tt
 bounded CreateQueue ms sound = (queue_name ms sound.0, tt)
 bounded DeleteQueue ms sound = (queue_name ms sound.0, tt)
 bounded PeekMessages ms sound =
@@ -305,6 +358,7 @@ bounded DeleteMessages ms sound =
     deletion_bounded (text_of member.QueueName ms) (count_given 0 281474976710655 (given member.Through ms)) (queue_name ms sound.0)
     (within_limits 0 281474976710655 (given member.Through ms))
 bounded DeliverDue ms sound = count_bounds 1 1000 100 (given member.Budget ms) (omega arith) (omega arith)
+bounded StepReplays ms sound = count_bounds 1 1000 100 (given member.Budget ms) (omega arith) (omega arith)
 bounded DutyCounts ms sound = tt
 bounded _ ms sound = tt
 
@@ -322,6 +376,7 @@ action_bounded PutPermission caller ms reading a sound is = permission_bounded (
 action_bounded PutEvents caller ms reading a sound is = rw is.2 (entry_bounds ms reading caller is.0 sound.0 is.1)
 action_bounded TestEventPattern caller ms reading a sound is =
     rw is.2 (pattern_text member.EventPattern ms sound.0, event_is_value (text_of member.Event ms) is.0 is.1)
+action_bounded StartReplay caller ms reading a sound is = start_bounded ms a sound is
 action_bounded operation caller ms reading a sound is = subst (λ o. IfSome o IsBounded) is (bounded operation ms sound)
 
 pub asked_bounded : (m : Message) (reading : ℕ) (r : Request) → IsAsked m reading r → IsBounded r.action

@@ -8,7 +8,7 @@ use Rattle.json_text.specs.Grammar.{IsText}
 use Rattle.json_text.specs.Checks.{AllHold, IsFirst}
 use Rattle.json_text.proofs.OneValue.{one_value}
 use Rattle.event_shape.specs.Names.{is_account}
-use Rattle.router_core.specs.Request.{Request}
+use Rattle.router_requests.specs.Request.{Request}
 use Rattle.api_replies.specs.declared.cause.Cause.{Cause}
 use Rattle.api_replies.specs.declared.cause.Cause.TheVariants as cause
 use Rattle.api_replies.specs.declared.member.Member.TheVariants as member

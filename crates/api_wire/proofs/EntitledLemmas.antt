@@ -8,7 +8,7 @@ use Rattle.event_shape.specs.Names.{owner}
 use Rattle.event_shape.specs.Entry.{Entry}
 use Rattle.event_shape.specs.Unnumbered.{Unnumbered}
 use Rattle.event_shape.specs.declared.entry.EntryFault.{EntryFault}
-use Rattle.router_core.specs.Request.{Action, remove_policy, remove_statement, delete_messages, Request, IsPublishing, IsEntryOf, AreEntriesOf, IsEntitled}
+use Rattle.router_requests.specs.Request.{Action, remove_policy, remove_statement, delete_messages, Request, IsPublishing, IsEntryOf, AreEntriesOf, IsEntitled}
 use Rattle.api_replies.specs.declared.member.Member.TheVariants as member
 use Rattle.api_members.specs.Given.{given, text_given, text_of, values_in}
 use Rattle.api_members.specs.Count.{count_given}
@@ -17,7 +17,7 @@ use Rattle.api_members.specs.CheckedEntry.{IsChecked, AreChecked}
 use Rattle.api_members.specs.Value.{bus_of_source}
 use Rattle.api_messages.specs.declared.message.Message.{Message}
 use Rattle.api_wire.specs.declared.call.operation.Operation.{Operation}
-use Rattle.api_wire.specs.declared.call.operation.Operation.TheVariants.{PutTargets, RemovePermission, DeleteMessages, PutPermission, PutEvents, TestEventPattern, CreateArchive}
+use Rattle.api_wire.specs.declared.call.operation.Operation.TheVariants.{PutTargets, RemovePermission, DeleteMessages, PutPermission, PutEvents, TestEventPattern, CreateArchive, StartReplay}
 use Rattle.api_wire.specs.Call.{caller_of, event_bus, removes_all, creation_in, action_in, IsPermission, IsAction, MayCall, IsAsked}
 
 own_entry : (reading : ℕ) (caller : List ℕ) (e : Entry) (one : Result Unnumbered EntryFault) → IsChecked reading caller e one → IsEntryOf caller one
@@ -60,6 +60,7 @@ own_action PutPermission caller ms reading a p = own_permission (given member.Po
 own_action PutEvents caller ms reading a p = rw p.2 (own_entries reading caller (entries_of (values_in member.Entries ms)) p.0 p.1)
 own_action PutTargets caller ms reading a p = rw p.2 tt
 own_action TestEventPattern caller ms reading a p = rw p.2 tt
+own_action StartReplay caller ms reading a p = rw p.is tt
 own_action operation caller ms reading a p = subst (λ o. IfSome o (AreEntriesOf caller)) p (own_found operation caller ms)
 
 allowed_action : (operation : Operation) (caller : List ℕ) (ms : Members) (reading : ℕ) (a : Action) → MayCall operation caller

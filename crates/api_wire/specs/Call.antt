@@ -2,7 +2,7 @@
 use Rattle.std.specs.Prelude.{◌≡◌, ℕ, ◌-◌, ◌^◌, min, Bool, true, false, not, List, [], ◌∷◌, Option, Some, None, Result, if◌then◌else◌}
 use Rattle.std.specs.Prelude.{codes, unwrap_or, IsTrue}
 use Rattle.std.specs.Str.{bytes_eq}
-use Rattle.std.specs.Option.{option_map}
+use Rattle.std.specs.Option.{option_and_then, option_map}
 use Rattle.json_text.specs.Tree.{Tree, truth, object, Members, no_members}
 use Rattle.json_text.specs.Compact.{compact_text}
 use Rattle.json_text.specs.Node.{Node, value_of}
@@ -15,11 +15,12 @@ use Rattle.bus_policy.specs.Text.{IsPolicyText}
 use Rattle.rule_targets.specs.declared.target.AskedRetry.{AskedRetry}
 use Rattle.rule_targets.specs.declared.target.AskedTarget.{AskedTarget}
 use Rattle.rule_targets.specs.Target.{IsAskedAs}
-use Rattle.router_core.specs.Request.{Action, Request, create_event_bus, delete_event_bus, describe_event_bus, list_event_buses, put_rule, delete_rule}
-use Rattle.router_core.specs.Request.{put_rule_state, describe_rule, list_rules, put_targets, remove_targets, list_targets_by_rule}
-use Rattle.router_core.specs.Request.{list_rule_names_by_target, put_policy, put_statement, remove_policy, remove_statement, put_events}
-use Rattle.router_core.specs.Request.{test_event_pattern, create_archive, update_archive, delete_archive, describe_archive, list_archives}
-use Rattle.router_core.specs.Request.{create_queue, delete_queue, peek_messages, delete_messages, deliver_due, duty_counts}
+use Rattle.router_requests.specs.Request.{Action, Request, create_event_bus, delete_event_bus, describe_event_bus, list_event_buses, put_rule, delete_rule}
+use Rattle.router_requests.specs.Request.{put_rule_state, describe_rule, list_rules, put_targets, remove_targets, list_targets_by_rule}
+use Rattle.router_requests.specs.Request.{list_rule_names_by_target, put_policy, put_statement, remove_policy, remove_statement, put_events}
+use Rattle.router_requests.specs.Request.{test_event_pattern, create_archive, update_archive, delete_archive, describe_archive, list_archives}
+use Rattle.router_requests.specs.Request.{start_replay, cancel_replay, describe_replay, list_replays, step_replays}
+use Rattle.router_requests.specs.Request.{create_queue, delete_queue, peek_messages, delete_messages, deliver_due, duty_counts}
 use Rattle.api_replies.specs.declared.member.Member.{Member}
 use Rattle.api_replies.specs.declared.member.Member.TheVariants as member
 use Rattle.api_replies.specs.declared.cause.Cause.{Cause}
@@ -33,7 +34,7 @@ use Rattle.api_members.specs.CheckedEntry.{AreChecked, total_size}
 use Rattle.api_members.specs.Event.{IsEventGiven}
 use Rattle.api_members.specs.Count.{count_given}
 use Rattle.api_members.specs.Target.{attempts_given, age_given, dead_letter_given, input_given, path_given, transformer_given}
-use Rattle.api_members.specs.Value.{bus_of_source, bus_or_default}
+use Rattle.api_members.specs.Value.{archive_of_source, bus_of_source, bus_or_default, destination_of, filter_given, IsTimeGiven}
 use Rattle.api_members.specs.Refusal.{AreSound, IsFirstRefusal}
 use Rattle.api_wire.specs.declared.call.operation.Operation.{Operation}
 use Rattle.api_wire.specs.declared.call.operation.Operation.TheVariants.{CreateEventBus, DeleteEventBus, DescribeEventBus, ListEventBuses}
@@ -41,6 +42,7 @@ use Rattle.api_wire.specs.declared.call.operation.Operation.TheVariants.{PutRule
 use Rattle.api_wire.specs.declared.call.operation.Operation.TheVariants.{PutTargets, RemoveTargets, ListTargetsByRule, ListRuleNamesByTarget}
 use Rattle.api_wire.specs.declared.call.operation.Operation.TheVariants.{PutPermission, RemovePermission, PutEvents, TestEventPattern}
 use Rattle.api_wire.specs.declared.call.operation.Operation.TheVariants.{CreateArchive, UpdateArchive, DeleteArchive, DescribeArchive, ListArchives}
+use Rattle.api_wire.specs.declared.call.operation.Operation.TheVariants.{StartReplay, CancelReplay, DescribeReplay, ListReplays, StepReplays}
 use Rattle.api_wire.specs.declared.call.operation.Operation.TheVariants.{CreateQueue, DeleteQueue, PeekMessages, DeleteMessages, DeliverDue, DutyCounts}
 use Rattle.api_messages.specs.declared.message.Message.{Message}
 
@@ -53,7 +55,17 @@ local_operation name =
     if bytes_eq name (codes "RouterLocal.PeekMessages") then Some PeekMessages else (
     if bytes_eq name (codes "RouterLocal.DeleteMessages") then Some DeleteMessages else (
     if bytes_eq name (codes "RouterLocal.DeliverDue") then Some DeliverDue else (
-    if bytes_eq name (codes "RouterLocal.DutyCounts") then Some DutyCounts else None)))))
+    if bytes_eq name (codes "RouterLocal.StepReplays") then Some StepReplays else (
+    if bytes_eq name (codes "RouterLocal.DutyCounts") then Some DutyCounts else None))))))
+
+-- The operations on replays.
+-- Shown by: replays.
+abbrev pub replay_operation : List ℕ → Option Operation
+replay_operation name =
+    if bytes_eq name (codes "AWSEvents.StartReplay") then Some StartReplay else (
+    if bytes_eq name (codes "AWSEvents.CancelReplay") then Some CancelReplay else (
+    if bytes_eq name (codes "AWSEvents.DescribeReplay") then Some DescribeReplay else (
+    if bytes_eq name (codes "AWSEvents.ListReplays") then Some ListReplays else local_operation name)))
 
 -- The operations on archives.
 -- Shown by: archives.
@@ -63,7 +75,7 @@ archive_operation name =
     if bytes_eq name (codes "AWSEvents.UpdateArchive") then Some UpdateArchive else (
     if bytes_eq name (codes "AWSEvents.DeleteArchive") then Some DeleteArchive else (
     if bytes_eq name (codes "AWSEvents.DescribeArchive") then Some DescribeArchive else (
-    if bytes_eq name (codes "AWSEvents.ListArchives") then Some ListArchives else local_operation name))))
+    if bytes_eq name (codes "AWSEvents.ListArchives") then Some ListArchives else replay_operation name))))
 
 -- The operation of an X-Amz-Target, compared exactly: `RouterLocal.CreateQueue` has one, `routerlocal.createqueue` has none.
 -- Shown by: tables api_wire.rows: a_message_has_its_first_refusal.
@@ -135,11 +147,18 @@ asked DeleteArchive ms = Required member.ArchiveName syntax.ArchiveName ∷ []
 asked DescribeArchive ms = Required member.ArchiveName syntax.ArchiveName ∷ []
 asked ListArchives ms = Optional member.NamePrefix syntax.AnyText ∷ Optional member.EventSourceArn syntax.AnyText
     ∷ Optional member.State syntax.ArchiveState ∷ []
+asked StartReplay ms = Required member.ReplayName syntax.ReplayName ∷ Required member.EventSourceArn syntax.ArchiveArn
+    ∷ Required member.EventStartTime syntax.Time ∷ Required member.EventEndTime syntax.Time ∷ Required member.Destination syntax.Destination ∷ []
+asked CancelReplay ms = Required member.ReplayName syntax.ReplayName ∷ []
+asked DescribeReplay ms = Required member.ReplayName syntax.ReplayName ∷ []
+asked ListReplays ms = Optional member.NamePrefix syntax.AnyText ∷ Optional member.EventSourceArn syntax.AnyText
+    ∷ Optional member.State syntax.ReplayState ∷ []
 asked CreateQueue ms = Required member.QueueName syntax.QueueName ∷ []
 asked DeleteQueue ms = Required member.QueueName syntax.QueueName ∷ []
 asked PeekMessages ms = Required member.QueueName syntax.QueueName ∷ Optional member.Limit (syntax.Count 1 1000) ∷ []
 asked DeleteMessages ms = Required member.QueueName syntax.QueueName ∷ Required member.Through (syntax.Count 0 281474976710655) ∷ []
 asked DeliverDue ms = Optional member.Budget (syntax.Count 1 1000) ∷ []
+asked StepReplays ms = Optional member.Budget (syntax.Count 1 1000) ∷ []
 asked DutyCounts ms = []
 
 -- The bus whose name or ARN this member gives, or else `default`.
@@ -215,9 +234,14 @@ days_given ms = count_given 0 2147483647 (given member.RetentionDays ms)
 abbrev pub creation_in : Members → List ℕ → Action
 creation_in ms bus = create_archive (text_of member.ArchiveName ms) bus (text_given member.EventPattern ms) (unwrap_or (days_given ms) 0)
 
--- The action that sound members of an operation make, a line for each operation. PutTargets, PutPermission, PutEvents and TestEventPattern
--- have none here: theirs depend on what a text spells, on the caller or on the reading (`IsAction`). A DeleteMessages has one if its Through is
--- valid, and a CreateArchive if its EventSourceArn is.
+-- The number of steps that is given, from 1 to 1,000, or 100 if none is.
+-- Shown by: the_default_budget_is_the_limit.edit.
+abbrev pub budget_of : Members → ℕ
+budget_of ms = unwrap_or (count_given 1 1000 (given member.Budget ms)) 100
+
+-- The action that sound members of an operation make, a line for each operation. PutTargets, PutPermission, PutEvents, TestEventPattern and
+-- StartReplay have none here: theirs depend on what a text or a time spells, on the caller or on the reading (`IsAction`). A DeleteMessages has
+-- one if its Through is valid, and a CreateArchive if its EventSourceArn is.
 -- Shown by: tables api_wire.rows: a_request_has_what_the_message_gives, a_call_on_a_queue_has_what_the_message_gives,
 -- a_call_on_a_rule_has_what_the_message_gives, a_removal_has_what_the_message_gives; the_default_budget_is_the_limit.edit.
 abbrev pub action_in : Operation → Members → Option Action
@@ -241,11 +265,16 @@ action_in DeleteArchive ms = Some (delete_archive (text_of member.ArchiveName ms
 action_in DescribeArchive ms = Some (describe_archive (text_of member.ArchiveName ms))
 action_in ListArchives ms =
     Some (list_archives (text_given member.NamePrefix ms) (text_given member.EventSourceArn ms) (text_given member.State ms))
+action_in CancelReplay ms = Some (cancel_replay (text_of member.ReplayName ms))
+action_in DescribeReplay ms = Some (describe_replay (text_of member.ReplayName ms))
+action_in ListReplays ms =
+    Some (list_replays (text_given member.NamePrefix ms) (text_given member.EventSourceArn ms) (text_given member.State ms))
 action_in CreateQueue ms = Some (create_queue (text_of member.QueueName ms))
 action_in DeleteQueue ms = Some (delete_queue (text_of member.QueueName ms))
 action_in PeekMessages ms = Some (peek_messages (text_of member.QueueName ms) (unwrap_or (count_given 1 1000 (given member.Limit ms)) 10))
 action_in DeleteMessages ms = option_map (delete_messages (text_of member.QueueName ms)) (count_given 0 281474976710655 (given member.Through ms))
-action_in DeliverDue ms = Some (deliver_due (unwrap_or (count_given 1 1000 (given member.Budget ms)) 100))
+action_in DeliverDue ms = Some (deliver_due (budget_of ms))
+action_in StepReplays ms = Some (step_replays (budget_of ms))
 action_in DutyCounts ms = Some duty_counts
 action_in _ ms = None
 
@@ -254,6 +283,25 @@ action_in _ ms = None
 abbrev pub IsPermission : Option Tree → Members → Action → Type 0
 IsPermission None ms a = a ≡ put_statement (event_bus ms) (text_of member.StatementId ms) (account_in (text_of member.Principal ms))
 IsPermission (Some _) ms a = (policy : List ℕ) × IsStoredAs (text_of member.Policy ms) policy × (a ≡ put_policy (event_bus ms) policy)
+
+-- A StartReplay: the replay's name, the archive whose ARN is given, the range of the two times, the bus of the Destination, and the rules of
+-- its filter, if it has one.
+-- Shown by: replays.
+pub record IsStartGiven (ms : Members) (action : Action) : Type 0 where
+  pub archive : List ℕ
+  pub archive_is : archive_of_source (text_of member.EventSourceArn ms) ≡ Some archive
+  pub start : ℕ
+  pub start_is : IsTimeGiven (given member.EventStartTime ms) start
+  pub end : ℕ
+  pub end_is : IsTimeGiven (given member.EventEndTime ms) end
+  pub bus : List ℕ
+  pub bus_is : option_and_then destination_of (given member.Destination ms) ≡ Some bus
+  pub is : action ≡ start_replay (record {
+    name = text_of member.ReplayName ms;
+    archive = archive;
+    range = record { start = start; end = end };
+    rules = option_and_then (filter_given bus) (given member.Destination ms);
+  }) bus
 
 -- The members of an operation make this action of the caller, if they are sound.
 -- Shown by: tables api_wire.rows: a_request_has_what_the_message_gives.
@@ -266,6 +314,7 @@ IsAction PutEvents caller ms reading a = (entries : List (Result Unnumbered Entr
     × (a ≡ put_events entries (min (total_size (entries_of (values_in member.Entries ms))) (2 ^ 64 - 1)))
 IsAction TestEventPattern caller ms reading a = (event : Tree) × IsEventGiven (text_of member.Event ms) event
     × (a ≡ test_event_pattern (text_of member.EventPattern ms) event)
+IsAction StartReplay caller ms reading a = IsStartGiven ms a
 IsAction operation caller ms reading a = action_in operation ms ≡ Some a
 
 -- The body is JSON within 100 levels, and an object with these members. An empty body counts as `{}`.

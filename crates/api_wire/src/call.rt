@@ -3,9 +3,9 @@ ghost use Rattle.std.specs.Prelude.{◌≡◌, IfOk, IfErr, MatchResult};
 ghost use Rattle.json_text.specs.Moment.{IsMoment};
 ghost use Rattle.json_text.specs.Tree.{members_of};
 ghost use Rattle.json_text.specs.View.{pairs_of};
-ghost use Rattle.router_core.specs.Request.{Request as RequestView, IsEntitled};
-ghost use Rattle.router_core.specs.Bounds.{IsBounded};
-ghost use Rattle.router_core.specs.View.{request_of, action_of};
+ghost use Rattle.router_requests.specs.Request.{Request as RequestView, IsEntitled};
+ghost use Rattle.router_requests.specs.Bounds.{IsBounded};
+ghost use Rattle.router_requests.specs.View.{request_of, action_of};
 ghost use Rattle.api_members.specs.Refusal.{AreSound};
 ghost use Rattle.api_wire.specs.Call.{asked, IsAction, IsAsked, caller_of};
 ghost use Rattle.api_wire.specs.CallAnswers.{IsFault};
@@ -18,6 +18,7 @@ mod operation;
 mod pattern;
 mod permissions;
 mod queues;
+mod replays;
 mod rules;
 mod targets;
 
@@ -35,7 +36,8 @@ use permissions::{put_permission, remove_permission};
 use queues::{
     create_queue, delete_messages, delete_queue, deliver_due, duty_counts, peek_messages,
 };
-use router_core::{Action, Request};
+use replays::{cancel_replay, describe_replay, list_replays, start_replay, step_replays};
+use router_requests::{Action, Request};
 use rules::{delete_rule, describe_rule, disable_rule, enable_rule, list_rules, put_rule};
 use std::alloc::Global;
 use targets::{list_rule_names_by_target, list_targets_by_rule, put_targets, remove_targets};
@@ -117,11 +119,16 @@ fn read_action(
         Operation::DeleteArchive => delete_archive(alloc, members),
         Operation::DescribeArchive => describe_archive(alloc, members),
         Operation::ListArchives => list_archives(alloc, members),
+        Operation::StartReplay => start_replay(alloc, members),
+        Operation::CancelReplay => cancel_replay(alloc, members),
+        Operation::DescribeReplay => describe_replay(alloc, members),
+        Operation::ListReplays => list_replays(alloc, members),
         Operation::CreateQueue => create_queue(alloc, members),
         Operation::DeleteQueue => delete_queue(alloc, members),
         Operation::PeekMessages => peek_messages(alloc, members),
         Operation::DeleteMessages => delete_messages(alloc, members),
         Operation::DeliverDue => Ok(deliver_due(members)),
+        Operation::StepReplays => Ok(step_replays(members)),
         Operation::DutyCounts => Ok(duty_counts()),
     }
 }

@@ -1,6 +1,6 @@
 //! The laws of the definitions.
 ghost use Rattle.std.specs.Prelude.{◌≡◌, ℕ};
-ghost use Rattle.router_core.specs.Request.{Request, IsEntitled};
+ghost use Rattle.router_requests.specs.Request.{Request, IsEntitled};
 ghost use Rattle.api_replies.specs.declared.cause.Cause.{Cause};
 ghost use Rattle.api_messages.specs.declared.message.Message.{Message};
 ghost use Rattle.api_wire.specs.Call.{IsAsked, IsCallRefused};

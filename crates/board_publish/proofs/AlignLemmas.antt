@@ -10,8 +10,8 @@ use Rattle.name_rows.proofs.NameOrder.{Less_from_Greater, same_name, bytes_eq_it
 use Rattle.name_rows.proofs.RowLemmas.{by_cmp, named_none, none_greater, others_after}
 use Rattle.rule_table.proofs.RowLemmas.{bytes_apart, named_same, named_other}
 use Rattle.rule_table.specs.RuleSet.{Rule}
-use Rattle.router_core.specs.Matching.{AreMatched, Matches, seen_target}
-use Rattle.router_core.specs.declared.seen.SeenTarget.{SeenTarget}
+use Rattle.router_requests.specs.Matching.{AreMatched, Matches, seen_target}
+use Rattle.router_requests.specs.declared.seen.SeenTarget.{SeenTarget}
 use Rattle.board_publish.specs.Entered.{entered_as}
 use Rattle.board_publish.specs.declared.entered.Entered.{Entered}
 use Rattle.board_publish.proofs.EnteredLemmas.{by_name, none_some, some_same}

@@ -9,8 +9,8 @@ use Rattle.rule_table.specs.Sound.{IsSound}
 use Rattle.rule_table.proofs.RowLemmas.{All_named, named_name}
 use Rattle.rule_automaton.specs.Rules.{TextHolds, HoldsAs, AreMarked}
 use Rattle.rule_automaton.proofs.MemberLemmas.{any_in, flat_append}
-use Rattle.router_core.specs.Matching.{AreMatched, TextMatches}
-use Rattle.router_core.specs.declared.seen.SeenTarget.{SeenTarget}
+use Rattle.router_requests.specs.Matching.{AreMatched, TextMatches}
+use Rattle.router_requests.specs.declared.seen.SeenTarget.{SeenTarget}
 use Rattle.board_publish.specs.Entered.{entered_as, HasNumber, Fits}
 use Rattle.board_publish.specs.Found.{found_for, seen_of}
 use Rattle.board_publish.specs.MatcherView.{Matcher}

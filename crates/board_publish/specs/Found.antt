@@ -1,8 +1,8 @@
 -- For private clauses alone: the targets of the rules that are marked.
 use Rattle.std.specs.Prelude.{ℕ, Bool, false, if◌then◌else◌, List, [], map, Option, Some, None, slice_index_or}
 use Rattle.rule_table.specs.RuleSet.{Rule, RuleSet, rule_at}
-use Rattle.router_core.specs.Matching.{seen_target}
-use Rattle.router_core.specs.declared.seen.SeenTarget.{SeenTarget}
+use Rattle.router_requests.specs.Matching.{seen_target}
+use Rattle.router_requests.specs.declared.seen.SeenTarget.{SeenTarget}
 use Rattle.board_publish.specs.declared.entered.Entered.{Entered}
 
 -- the targets of the rule, none if there is none

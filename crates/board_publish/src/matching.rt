@@ -6,8 +6,8 @@ ghost use Rattle.json_text.specs.View.{tree_of};
 ghost use Rattle.event_shape.specs.Event.{event_tree};
 ghost use Rattle.rule_table.specs.RuleSet.{RuleSet as Set, rule_at, rules_of};
 ghost use Rattle.rule_table.specs.Sound.{IsSound};
-ghost use Rattle.router_core.specs.Matching.{AreMatched, HasValue, IsSeen, IsSeenEvent};
-ghost use Rattle.router_core.specs.View.{action_of, request_of};
+ghost use Rattle.router_requests.specs.Matching.{AreMatched, HasValue, IsSeen, IsSeenEvent};
+ghost use Rattle.router_requests.specs.View.{action_of, request_of};
 ghost use Rattle.board_publish.specs.Matchers.{HasRule, IsKnown, enabled_at};
 ghost use Rattle.board_publish.specs.Found.{found_for, seen_of};
 
@@ -20,7 +20,7 @@ use event_shape::Event;
 use json_text::{Json, NoMemory};
 use name_rows::{Row, Rows};
 use numeric_keys::Marks;
-use router_core::{
+use router_requests::{
     Finder, Request, Seen, SeenArchives, SeenTargets, archives_keeping, push_targets,
     see_event_with, see_with,
 };

@@ -4,7 +4,7 @@ use Rattle.router_disk.specs.declared.disk_call.DiskCall.{DiskCall}
 use Rattle.router_disk.specs.Disk.{AreAnswers}
 use Rattle.record_file.specs.Kept.{IsOpened}
 use Rattle.record_file.specs.State.{Counts}
-use Rattle.router_core.specs.Batch.{Batch}
+use Rattle.router_requests.specs.Batch.{Batch}
 use Rattle.router_core.specs.Tables.{first_tables}
 use Rattle.duty_journal.specs.declared.fault.JournalFault.{JournalFault}
 use Rattle.duty_journal.specs.declared.fault.JournalFault.TheVariants.{Failed, NoMemory}

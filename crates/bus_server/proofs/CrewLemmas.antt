@@ -52,7 +52,7 @@ made_by_one numbers (Some n) some known = elim (known n) [
 all_made : (numbers : List ℕ) (s : State) (turns : List history.Turn) → AreTurnsFrom s turns → ((n : ℕ) → IsKnown numbers turns n) → All (IsMadeBy numbers) turns
 all_made numbers s [] legal known = All-nil (IsMadeBy numbers)
 all_made numbers s (t ∷ ts) legal known =
-    All-cons (IsMadeBy numbers) t ts (made_by_one numbers t.pass (has_pass s t t.ask legal.0) (λ n. elim (known n) [
+    All-cons (IsMadeBy numbers) t ts (made_by_one numbers t.pass (has_pass s t t.ask legal.0.made_for) (λ n. elim (known n) [
       | inl none ↦ inl (first_other n t ts none).0
       | inr there ↦ inr there
     ]))

@@ -8,7 +8,7 @@ use Rattle.router_disk.specs.Link.{Exchange}
 use Rattle.bus_host.specs.declared.host.HostFault.{HostFault}
 use Rattle.bus_host.specs.declared.host.HostFault.TheVariants as host
 use Rattle.bus_host.specs.HostFault.{host_outcome}
-use Rattle.router_core.specs.Batch.{Batch}
+use Rattle.router_requests.specs.Batch.{Batch}
 use Rattle.router_core.specs.Tables.{first_tables}
 use Rattle.program_lines.specs.declared.status.Status.{Status}
 use Rattle.program_lines.specs.declared.status.Status.TheVariants as statuses

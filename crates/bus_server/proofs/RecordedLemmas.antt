@@ -5,7 +5,7 @@ use Rattle.std.specs.Prelude.{All, Contains}
 use Rattle.std.proofs.lemmas.Grind.{flat_map-append}
 use Rattle.std.proofs.lemmas.Bool.{true≢false}
 use Rattle.std.proofs.lemmas.List.Elements.{Contains-append_left, Contains-append_right, Contains-append_cases, Contains-push_cases}
-use Rattle.router_core.specs.Batch.{Batch}
+use Rattle.router_requests.specs.Batch.{Batch}
 use Rattle.router_core.specs.Tables.{Tables, is_full}
 use Rattle.delivery_duties.specs.declared.duty.DutyRow.{DutyRow}
 use Rattle.delivery_duties.specs.declared.outcome.Outcome.{Outcome}
@@ -21,7 +21,7 @@ use Rattle.courier_run.specs.Act.{Try, reads, ticks, looks, makes, tries, writes
 use Rattle.courier_run.specs.Steps.{IsStep, attempted, Stepping, one_more, IsStop, idle_at, full_at, broken_at, out_of_memory, unsent_at, unrecorded, spent, stopped}
 use Rattle.courier_run.specs.Steps.{limited_by, broken_before, broken_by}
 use Rattle.courier_run.specs.Steps as steps
-use Rattle.router_history.specs.History.{Turn, State, Placed, Ask, opens, claims, records, puts_back, breaks, IsTurnFor, IsTurnOf, after_ask, after_turn, state_after}
+use Rattle.router_history.specs.History.{Turn, State, Placed, Ask, opens, claims, records, puts_back, repeats, breaks, IsTurnFor, after_ask, after_turn, state_after}
 use Rattle.router_history.specs.History.{AreTurnsFrom}
 use Rattle.router_history.specs.History as history
 use Rattle.router_history.specs.Acts.{Act, Claims, Records, PutsBack, Breaks, IsIdle, IsFullAt, IsBrokenAt, Steps, Happens}
@@ -29,6 +29,7 @@ use Rattle.router_history.specs.Session as session
 use Rattle.router_history.specs.Session.{Answers, Serving, begun, reads_on, answers, IsLast, Ended}
 use Rattle.router_history.proofs.TurnLemmas.{state_append, turns_back}
 use Rattle.router_history.proofs.ActLemmas.{state_here}
+use Rattle.router_history.proofs.RepeatLemmas.{tries_none}
 use Rattle.router_history.proofs.SteadyLemmas.{broken_written}
 use Rattle.bus_server.specs.Run.{AreRecorded, IsLost, IsRecorded}
 use Rattle.drill_run.proofs.OnePassLemmas.{others_none, all_front, all_back}
@@ -138,7 +139,7 @@ claimed_whole s turn ask c is legal =
 -- the turns of an attempt come one after the other
 at_attempt : (s : State) (added : List Turn) (reading : ℕ) (p q : Placed) (c : Claim) (o : Outcome) (ends : List Act)
     → Alone s added (ticks reading ∷ makes p ∷ tries c o ∷ makes q ∷ ends)
-    → (here : State) × IsTurnOf here p.turn × IsTurnOf (after_turn p.turn here) q.turn
+    → (here : State) × IsTurnFor here p.turn p.turn.ask × IsTurnFor (after_turn p.turn here) q.turn q.turn.ask
 at_attempt s added reading p q c o ends a =
     let (others, rest, is, other, pass, before, known, (others2, rest2, is2, other2, pass2, before2, known2, last)) = a.happens in
     let first = turns_back s others (p.turn ∷ rest) (subst (AreTurnsFrom s) is a.legal) in
@@ -147,9 +148,9 @@ at_attempt s added reading p q c o ends a =
     all_back (p.turn ∷ []) rest (all_back others (p.turn ∷ rest) (subst (All (λ (t : Turn). t.pass ≡ Some 0)) is a.own)) in
     let none : others2 ≡ [] = others_none others2 (all_front others2 (q.turn ∷ rest2) (subst (All (λ (t : Turn). t.pass ≡ Some 0)) is2 own)) other2 in
     let later = turns_back (after_turn p.turn here) others2 (q.turn ∷ rest2) (subst (AreTurnsFrom (after_turn p.turn here)) is2 first.1.1) in
-    let at : IsTurnOf (after_turn p.turn here) q.turn =
-    subst (λ (ts : List Turn). IsTurnOf (state_after ts (after_turn p.turn here)) q.turn) none later.1.0 in
-    (here, first.1.0, at)
+    let at : IsTurnFor (after_turn p.turn here) q.turn q.turn.ask =
+    subst (λ (ts : List Turn). IsTurnFor (state_after ts (after_turn p.turn here)) q.turn q.turn.ask) none later.1.0.made_for in
+    (here, first.1.0.made_for, at)
 
 -- so a claim is not put back at the limit at once
 never_limited : (s : State) (added : List Turn) (reading : ℕ) (p q : Placed) (c : Claim) (o : Outcome)
@@ -205,6 +206,8 @@ answers_recorded s added m _ _ a (session.failed_before reading request state po
 answers_recorded s added m _ _ a (session.stepped reading request budget acts turned stop post asked due steps) =
     recorded_append (ticks reading ∷ []) acts (no_tries (ticks reading ∷ []) refl)
     (steps_recorded s added budget acts turned stop (record { happens = a.happens; legal = a.legal; own = a.own }) steps)
+answers_recorded s added m _ _ a (session.repeated reading request budget acts made post asked due repeating) =
+    no_tries (ticks reading ∷ acts) (ap tries_in repeating.are ∙ tries_none repeating.steps)
 
 serving_recorded : (s : State) (added : List Turn) (n : ℕ) (held : List ℕ) (acts : List Act) → Alone s added acts → Serving n held acts → AreMarked acts
 serving_recorded s added _ _ _ a (begun state) = no_tries (looks state ∷ []) refl
@@ -257,11 +260,12 @@ stays_asked turn (history.asked request) s is broken = broken_written turn.batch
 stays_asked turn (claims c) s is broken = broken
 stays_asked turn (records a) s is broken = broken_written turn.batch s ∙ broken
 stays_asked turn (puts_back c why) s is broken = broken
+stays_asked turn (repeats reading) s is broken = broken_written turn.batch s ∙ broken
 stays_asked turn (breaks bs) s is broken = refl
 
 pub stays_broken : (turns : List Turn) (s : State) → AreTurnsFrom s turns → s.broken ≡ true → (state_after turns s).broken ≡ true
 stays_broken [] s legal broken = broken
-stays_broken (turn ∷ turns) s legal broken = stays_broken turns (after_turn turn s) legal.1 (stays_asked turn turn.ask s legal.0 broken)
+stays_broken (turn ∷ turns) s legal broken = stays_broken turns (after_turn turn s) legal.1 (stays_asked turn turn.ask s legal.0.made_for broken)
 
 broken_over : (s : State) (added others turns : List Turn) → added ≡ others ++ turns → (state_after turns (state_after others s)).broken ≡ true
     → (state_after added s).broken ≡ true

@@ -9,7 +9,7 @@ use Rattle.program_lines.specs.declared.status.Status.{Status}
 use Rattle.program_lines.specs.declared.status.Status.TheVariants as statuses
 use Rattle.message_streams.specs.declared.farewell.SessionEnd.{SessionEnd}
 use Rattle.message_streams.specs.declared.farewell.SessionEnd.TheVariants as ends
-use Rattle.router_history.specs.History.{OpenedDisk, Ask, opens, asked, claims, records, puts_back, breaks, Turn, State, AreTurnsFrom, begun, state_after, state_of, turns_by}
+use Rattle.router_history.specs.History.{OpenedDisk, Ask, opens, asked, claims, records, puts_back, repeats, breaks, Turn, State, AreTurnsFrom, begun, state_after, state_of, turns_by}
 use Rattle.router_history.specs.Book.{opening, IsBook, Rests}
 use Rattle.router_history.specs.Acts.{World, world}
 use Rattle.router_history.specs.Session.{IsSession}
@@ -49,6 +49,7 @@ disk_by (asked request) = None
 disk_by (claims c) = None
 disk_by (records a) = None
 disk_by (puts_back c why) = None
+disk_by (repeats reading) = None
 disk_by (breaks bs) = None
 
 abbrev pub first_disk : List Turn → Option OpenedDisk

@@ -208,7 +208,12 @@ fn push_kept(
 }
 
 /// Appends a member whose value is this number.
-fn push_number(alloc: Global, members: &mut Members, key: &str, value: u128) -> Result<(), NoMemory>
+pub(crate) fn push_number(
+    alloc: Global,
+    members: &mut Members,
+    key: &str,
+    value: u128,
+) -> Result<(), NoMemory>
     ensures { OnOk result (pairs_of members.new.items ≡ pairs_of members.old.items ++ (key.now, number (decimal value)) ∷ []) }
 {
     let number = Json::Num(Text::from(format!(in alloc; "{value}")?));

@@ -88,3 +88,17 @@ pub(crate) fn no_archive(alloc: Global, name: &str) -> Result<Reply, NoMemory>
         },
     )
 }
+
+/// The reply that the replay does not exist.
+pub(crate) fn no_replay(alloc: Global, name: &str) -> Result<Reply, NoMemory>
+    ensures { IfOk result (λ r. reply_of r ≡ replies.refused (cause_is.NotFound kind_is.Replay name.now)) }
+{
+    let name = Text::from_str(alloc, name)?;
+    refused_reply(
+        alloc,
+        &Cause::NotFound {
+            kind: Kind::Replay,
+            name,
+        },
+    )
+}

@@ -8,7 +8,7 @@ use mathlib.Core.List.{IsPrefix}
 use Rattle.turn_book.specs.Rule.{IsUnmade, is_number}
 use Rattle.router_core.specs.Tables.{first_tables}
 use Rattle.router_history.specs.declared.history.Turn.{Turn as CodeTurn}
-use Rattle.router_history.specs.History.{Ask, opens, asked, claims, records, puts_back, breaks, Turn, State, OpenClaim, claims_of, after_turn, state_of, turns_by, begun}
+use Rattle.router_history.specs.History.{Ask, opens, asked, claims, records, puts_back, repeats, breaks, Turn, State, OpenClaim, claims_of, after_turn, state_of, turns_by, begun}
 use Rattle.router_history.specs.History.{IsTurnFor, AreTurnsFrom}
 use Rattle.router_history.specs.Book.{turn_of, opening_on, IsBook, Rests}
 use Rattle.router_history.proofs.TurnLemmas.{first_other, none_of_mine}
@@ -50,6 +50,7 @@ has_pass s turn (asked request) is = is.0
 has_pass s turn (claims c) is = subst (λ (p : Option ℕ). IsSome p) (sym is.by) refl
 has_pass s turn (records a) is = subst (λ (p : Option ℕ). IsSome p) (sym is.ends.by) refl
 has_pass s turn (puts_back c why) is = subst (λ (p : Option ℕ). IsSome p) (sym is.1.by) refl
+has_pass s turn (repeats reading) is = is.by
 has_pass s turn (breaks unsure) is = is.by
 
 -- the one pass made it
@@ -65,7 +66,7 @@ pub all_own : (s : State) (turns : List Turn) → AreTurnsFrom s turns → ((n :
 all_own s [] legal none = All-nil (λ (t : Turn). t.pass ≡ Some 0)
 all_own s (t ∷ ts) legal none =
     All-cons (λ (u : Turn). u.pass ≡ Some 0) t ts
-    (own_pass t.pass (has_pass s t t.ask legal.0) (λ n most. (first_other n t ts (none n most)).0))
+    (own_pass t.pass (has_pass s t t.ask legal.0.made_for) (λ n most. (first_other n t ts (none n most)).0))
     (all_own (after_turn t s) ts legal.1 (λ n most. (first_other n t ts (none n most)).1))
 
 -- the turns after the one that opened the book

@@ -2,7 +2,7 @@
 use Rattle.std.proofs.Common.{◌≡◌, ℕ, ◌≤◌, ◌<◌, List, Option, Some, None, true, false, eqb, leb, refl, sym, ap, subst, ◌∙◌, arith}
 use Rattle.std.specs.List.{AllByRecursion}
 use Rattle.std.proofs.lemmas.Bool.Decides.{nat_tests}
-use Rattle.router_core.specs.Batch.{Entry, control, Batch}
+use Rattle.router_requests.specs.Batch.{Entry, control, Batch}
 use Rattle.entry_bytes.specs.declared.fault.ReadFault.{ReadFault}
 use Rattle.entry_bytes.specs.declared.fault.ReadFault.TheVariants as fault
 use Rattle.entry_bytes.specs.Reading.{◌>>=◌, Blames, HasNone, made_at, byte_at, two_at, eight_at, items_at}

@@ -7,7 +7,7 @@ use Rattle.record_file.specs.Records.{laid}
 use Rattle.entry_bytes.specs.Duty.{IsOutcome}
 use Rattle.entry_bytes.proofs.Formats.{some_is}
 use Rattle.router_core.specs.Admitted.{IsAdmitted}
-use Rattle.router_core.specs.Batch.{Batch}
+use Rattle.router_requests.specs.Batch.{Batch}
 use Rattle.router_core.specs.Steps.{record_of}
 use Rattle.router_core.specs.Tables.{Tables, tables_after}
 use Rattle.duty_journal.specs.declared.fault.DiskFault.{DiskFault}

@@ -15,7 +15,7 @@ use Rattle.record_file.specs.Kept.{Begins, Between, IsKept}
 use Rattle.record_file.specs.State.{IsSound, payloads_of}
 use Rattle.record_file.specs.Append.{LeavesBoth, MadeCalls, StaysKept}
 use Rattle.record_file.proofs.RecordLemmas.{length-length_bytes}
-use Rattle.router_core.specs.Batch.{Batch}
+use Rattle.router_requests.specs.Batch.{Batch}
 use Rattle.router_core.specs.Tables.{Tables, after_batch, tables_after}
 use Rattle.duty_journal.specs.declared.fault.DiskFault.{DiskFault}
 use Rattle.duty_journal.specs.declared.journal.Journal.{Journal}

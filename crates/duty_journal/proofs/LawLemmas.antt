@@ -4,7 +4,7 @@ use Rattle.std.specs.List.{AllByRecursion}
 use Rattle.record_file.specs.Records.{first_gate, length_bytes, records, Fits}
 use Rattle.record_file.proofs.RecordLemmas.{payload_same}
 use Rattle.record_file.proofs.ScanLemmas as scan
-use Rattle.router_core.specs.Batch.{Batch}
+use Rattle.router_requests.specs.Batch.{Batch}
 use Rattle.router_core.specs.Tables.{Tables, after_batch, tables_after}
 use Rattle.router_core.specs.Admitted.{IsAdmitted}
 use Rattle.duty_journal.specs.Batch.{batch_bytes, IsReadable}

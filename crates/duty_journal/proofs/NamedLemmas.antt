@@ -13,7 +13,7 @@ use Rattle.rule_table.specs.Control.{queue_created, queue_deleted, archive_creat
 use Rattle.rule_table.specs.RuleSet.{Bus, Rule, RuleSet, applied, changed, first_set, keeping_targets, new_rule, put_rule, put_targets, with_rule_changed, without_targets}
 use Rattle.rule_table.specs.WellFormed.{IsWellFormed}
 use Rattle.rule_table.proofs.RowLemmas.{All_without}
-use Rattle.router_core.specs.Batch.{Entry, control, accepted, attempt, replay_started, replay_stepped, replay_cancelled, messages_deleted, Batch}
+use Rattle.router_requests.specs.Batch.{Entry, control, accepted, attempt, replay_started, replay_stepped, replay_cancelled, messages_deleted, Batch}
 use Rattle.router_core.specs.Tables.{Tables, after_entry, after_entries, after_batch}
 use Rattle.router_core.specs.Admitted.{AreAdmitted, IsAdmitted}
 use Rattle.duty_journal.specs.Named.{AreNamedByArns, IsNamedByArn}

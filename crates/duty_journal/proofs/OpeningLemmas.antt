@@ -15,7 +15,7 @@ use Rattle.record_file.specs.Kept.{Begins, IsKept, IsOpened, IsSettledSince}
 use Rattle.record_file.specs.State.{IsEmptyFile, IsScan, IsSound, OnlyLooks, payloads_of}
 use Rattle.record_file.specs.Next.{IsClosedScan}
 use Rattle.record_file.proofs.LookLemmas.{OnlyLooks-file}
-use Rattle.router_core.specs.Batch.{Batch}
+use Rattle.router_requests.specs.Batch.{Batch}
 use Rattle.router_core.specs.Tables.{Tables, first_tables, tables_after}
 use Rattle.duty_journal.specs.declared.fault.JournalFault.{JournalFault}
 use Rattle.duty_journal.specs.declared.recover.Found.{Found}

@@ -4,12 +4,12 @@ use Rattle.std.proofs.Common.{◌≡◌, ℕ, ◌^◌, ◌<◌, List, [], ◌∷
 use Rattle.std.specs.List.{AllByRecursion}
 use Rattle.std.proofs.lemmas.List.{append-nil}
 use Rattle.delivery_duties.specs.declared.duty.NewDuty.{NewDuty}
-use Rattle.router_core.specs.Batch.{Entry, control, accepted, attempt, replay_started, replay_stepped, replay_cancelled, messages_deleted, Batch}
+use Rattle.router_requests.specs.Batch.{Entry, control, accepted, attempt, replay_started, replay_stepped, replay_cancelled, messages_deleted, Batch}
 use Rattle.entry_bytes.specs.Duty.{IsDuty, IsNamed}
 use Rattle.entry_bytes.specs.Reading.{IsBytes, HasNone}
 use Rattle.entry_bytes.proofs.Formats.{some_is}
-use Rattle.router_core.specs.View.{batch_of}
-use Rattle.router_core.specs.declared.batch.Batch.{Batch as CodeBatch}
+use Rattle.router_requests.specs.View.{batch_of}
+use Rattle.router_requests.specs.declared.batch.Batch.{Batch as CodeBatch}
 use Rattle.router_core.specs.Tables.{Tables, after_entry}
 use Rattle.router_core.specs.Admitted.{AreAdmitted, IsAdmitted}
 use Rattle.duty_journal.specs.Batch.{batch_bytes, FitsBytes, IsOperation, NamesRules, HasValidTexts, IsReadable, IsNoBatch}

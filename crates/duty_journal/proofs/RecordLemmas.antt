@@ -6,7 +6,7 @@ use Rattle.std.proofs.lemmas.List.{append-nil}
 use Rattle.std.proofs.lemmas.List.Concat.{flat_map-cons}
 use Rattle.record_file.specs.Records.{length_bytes, laid}
 use Rattle.delivery_duties.specs.declared.outcome.Outcome.{Outcome}
-use Rattle.router_core.specs.Batch.{Entry, attempt, Batch}
+use Rattle.router_requests.specs.Batch.{Entry, attempt, Batch}
 use Rattle.entry_bytes.specs.Fields.{two_bytes, eight_bytes}
 use Rattle.entry_bytes.specs.Duty.{outcome_bytes}
 use Rattle.duty_journal.specs.Batch.{operation_bytes, batch_bytes}

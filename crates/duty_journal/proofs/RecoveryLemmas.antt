@@ -13,7 +13,7 @@ use Rattle.record_file.specs.State.{IsScan, IsScanOf, OnlyLooks, payload_of}
 use Rattle.record_file.specs.Next.{IsNext}
 use Rattle.record_file.proofs.RecordLemmas.{HasRecords-last, length-length_bytes, payload_same}
 use Rattle.record_file.proofs.LookLemmas.{OnlyLooks-then}
-use Rattle.router_core.specs.Batch.{Batch}
+use Rattle.router_requests.specs.Batch.{Batch}
 use Rattle.router_core.specs.Tables.{Tables, after_batch, tables_after}
 use Rattle.router_core.specs.Admitted.{IsAdmitted}
 use Rattle.duty_journal.specs.declared.fault.JournalFault.{JournalFault}

@@ -17,12 +17,12 @@ use Rattle.delivery_duties.specs.declared.verdict.Verdict.{Verdict}
 use Rattle.delivery_duties.specs.declared.verdict.Verdict.TheVariants.{Deliver, Retry, Fail}
 use Rattle.delivery_duties.specs.Retry.{Attempt, begun, dead_letter_queue, retried, too_long, verdict_of}
 use Rattle.delivery_duties.specs.Duties.{Duties, added, added_one, attempt_of, failed, has_dead_letter_queue, pending_row, settled_by, settled_row}
-use Rattle.router_core.specs.Batch.{Accepted, Entry, control, accepted, attempt, replay_started, replay_stepped, replay_cancelled, messages_deleted, Batch}
+use Rattle.router_requests.specs.Batch.{Accepted, Entry, control, accepted, attempt, replay_started, replay_stepped, replay_cancelled, messages_deleted, Batch}
 use Rattle.router_core.specs.Tables.{Tables, duties_after, after_entry, after_entries, after_batch}
 use Rattle.router_core.specs.Admitted.{AreAdmitted, AreOfOneTurn, IsAnEvent, IsEventAdmitted}
 use Rattle.router_core.specs.Ready.{IsPartOf, ArePartsOf}
-use Rattle.router_core.specs.View.{entry_of}
-use Rattle.router_core.specs.declared.batch.Entry.{Entry as CodeEntry}
+use Rattle.router_requests.specs.View.{entry_of}
+use Rattle.router_requests.specs.declared.batch.Entry.{Entry as CodeEntry}
 use Rattle.router_core.specs.declared.ready.Part.{Part}
 use Rattle.duty_journal.specs.declared.fault.ReplayFault.{ReplayFault}
 use Rattle.duty_journal.specs.Redo.{AreUnclaimed, HasNoClaim, IsNextEvent, AreNextEvents}

@@ -16,8 +16,8 @@ use Rattle.replay_run.specs.declared.state.ReplayState.TheVariants.{Running}
 use Rattle.replay_run.specs.Replay.{replay_state}
 use Rattle.replay_run.specs.Replays.{found, if_running, is_running, is_running_state, most_running, running, running_named}
 use Rattle.replay_run.proofs.ReplaysLemmas.{runs_state}
-use Rattle.router_core.specs.declared.batch.StartedReplay.{StartedReplay}
-use Rattle.router_core.specs.Batch.{Stepped}
+use Rattle.router_requests.specs.declared.batch.StartedReplay.{StartedReplay}
+use Rattle.router_requests.specs.Batch.{Stepped}
 use Rattle.router_core.specs.Tables.{Tables}
 use Rattle.router_core.specs.Admitted.{IsStartAdmitted, IsStepAdmitted}
 use Rattle.duty_journal.specs.Redo.{IsNextOfReplay}

@@ -3,8 +3,8 @@ use Rattle.std.specs.Prelude.{◌≡◌, ℕ, ◌^◌, ◌<◌, ◌≤◌, List,
 use Rattle.std.specs.List.{flat_map, AllByRecursion}
 use Rattle.rule_table.specs.WellFormed.{IsSpelled}
 use Rattle.delivery_duties.specs.declared.duty.NewDuty.{NewDuty}
-use Rattle.router_core.specs.declared.batch.StartedReplay.{StartedReplay}
-use Rattle.router_core.specs.Batch.{Accepted, Stepped, Entry, control, accepted, attempt, replay_started, replay_stepped, replay_cancelled, messages_deleted, Batch}
+use Rattle.router_requests.specs.declared.batch.StartedReplay.{StartedReplay}
+use Rattle.router_requests.specs.Batch.{Accepted, Stepped, Entry, control, accepted, attempt, replay_started, replay_stepped, replay_cancelled, messages_deleted, Batch}
 use Rattle.entry_bytes.specs.Fields.{two_bytes, eight_bytes, text_bytes, optional_bytes, list_bytes, IsText, IsOptional, IsList}
 use Rattle.entry_bytes.specs.Change.{change_bytes, IsChange}
 use Rattle.entry_bytes.specs.Duty.{duty_bytes, outcome_bytes, IsDuty, IsNamed, IsOutcome}

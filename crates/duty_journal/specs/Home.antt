@@ -1,7 +1,7 @@
 -- Where batches are appended: a journal, or nowhere.
 use Rattle.std.specs.Prelude.{◌≡◌, ℕ, Bool, false, List, [], ◌∷◌, ◌++◌, ⊤, Option, Some, None, Result, IsOk}
 use Rattle.router_disk.specs.declared.disk_call.DiskCall.{DiskCall}
-use Rattle.router_core.specs.Batch.{Batch}
+use Rattle.router_requests.specs.Batch.{Batch}
 use Rattle.std.specs.List.{AllByRecursion}
 use Rattle.router_core.specs.Admitted.{IsAdmitted}
 use Rattle.router_core.specs.Tables.{Tables, tables_after}

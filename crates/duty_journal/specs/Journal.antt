@@ -8,7 +8,7 @@ use Rattle.router_disk.specs.Faults.{CountsFaults}
 use Rattle.record_file.specs.Records.{first_gate, header, length_bytes, records, HasRecords, IsFileOf}
 use Rattle.record_file.specs.State.{IsSound, payloads_of}
 use Rattle.record_file.specs.Append.{MadeCalls}
-use Rattle.router_core.specs.Batch.{Batch}
+use Rattle.router_requests.specs.Batch.{Batch}
 use Rattle.router_core.specs.Tables.{Tables, after_batch, tables_after}
 use Rattle.router_core.specs.Admitted.{IsAdmitted}
 use Rattle.duty_journal.specs.declared.fault.DiskFault.{DiskFault}

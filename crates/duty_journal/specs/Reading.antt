@@ -2,8 +2,8 @@
 use Rattle.std.specs.Prelude.{ℕ, nat_le, ◌==◌, List, [], ◌∷◌, Option, None, if◌then◌else◌}
 use Rattle.delivery_duties.specs.declared.duty.NewDuty.{NewDuty}
 use Rattle.delivery_duties.specs.declared.outcome.Outcome.{Outcome}
-use Rattle.router_core.specs.declared.batch.StartedReplay.{StartedReplay}
-use Rattle.router_core.specs.Batch.{Accepted, Stepped, Entry, control, accepted, attempt, replay_started, replay_stepped, replay_cancelled, messages_deleted, Batch}
+use Rattle.router_requests.specs.declared.batch.StartedReplay.{StartedReplay}
+use Rattle.router_requests.specs.Batch.{Accepted, Stepped, Entry, control, accepted, attempt, replay_started, replay_stepped, replay_cancelled, messages_deleted, Batch}
 use Rattle.entry_bytes.specs.Reading.{◌>>=◌, pair_at, made_at, choice_at, byte_at, two_at, eight_at, text_at, items_at, list_at, optional_at}
 use Rattle.entry_bytes.specs.ChangeReading.{change_at}
 use Rattle.entry_bytes.specs.DutyReading.{duty_at, outcome_at}

@@ -10,7 +10,7 @@ use Rattle.record_file.specs.declared.scan.Scan.{Scan}
 use Rattle.record_file.specs.declared.scan.Next.TheVariants as nexts
 use Rattle.record_file.specs.State.{IsScan, IsScanOf, OnlyLooks, payload_of}
 use Rattle.record_file.specs.Next.{IsClosedScan, IsNext}
-use Rattle.router_core.specs.Batch.{Batch}
+use Rattle.router_requests.specs.Batch.{Batch}
 use Rattle.router_core.specs.Tables.{Tables, after_batch, first_tables, tables_after}
 use Rattle.router_core.specs.Admitted.{IsAdmitted}
 use Rattle.duty_journal.specs.declared.fault.JournalFault.{JournalFault}

@@ -13,12 +13,12 @@ use Rattle.replay_run.specs.Replays.{running_named}
 use Rattle.delivery_duties.specs.declared.duty.DutyRow.{DutyRow}
 use Rattle.delivery_duties.specs.declared.duty.NewDuty.{NewDuty}
 use Rattle.delivery_duties.specs.Duties.{Duties, pending_row}
-use Rattle.router_core.specs.Batch.{Accepted, Entry, control, accepted, attempt, replay_started, replay_stepped, replay_cancelled, messages_deleted, Batch}
+use Rattle.router_requests.specs.Batch.{Accepted, Entry, control, accepted, attempt, replay_started, replay_stepped, replay_cancelled, messages_deleted, Batch}
 use Rattle.router_core.specs.Tables.{Tables}
 use Rattle.router_core.specs.Admitted.{IsTextAdmitted, IsAdmitted}
 use Rattle.router_core.specs.Steps.{record_of}
 use Rattle.router_core.specs.Ready.{IsPartOf, ArePartsOf, IsMadeOn, AreMadeOn, IsReadyFor}
-use Rattle.router_core.specs.View.{batch_of}
+use Rattle.router_requests.specs.View.{batch_of}
 use Rattle.duty_journal.specs.declared.redo.Redo.{Redo}
 use Rattle.duty_journal.specs.declared.redo.Redo.TheVariants.{Ready, Attempt}
 use Rattle.duty_journal.specs.declared.redo.Plan.{Plan}

@@ -1,9 +1,9 @@
 //! Where batches are appended: to a journal, or nowhere.
 ghost use Rattle.std.specs.Prelude.{◌≡◌, IfOk};
 ghost use Rattle.entry_bytes.specs.Duty.{IsOutcome};
-ghost use Rattle.router_core.specs.Batch.{Batch as BatchView};
+ghost use Rattle.router_requests.specs.Batch.{Batch as BatchView};
 ghost use Rattle.router_core.specs.Steps.{record_of};
-ghost use Rattle.router_core.specs.View.{batch_of};
+ghost use Rattle.router_requests.specs.View.{batch_of};
 
 use crate::fault::DiskFault;
 use crate::journal::Journal;
@@ -11,8 +11,8 @@ use crate::prepared::{Prepared, prepare};
 use crate::record::attempt_record;
 use delivery_duties::Outcome;
 use json_text::NoMemory;
-use router_core::Batch;
 use router_disk::Disk;
+use router_requests::Batch;
 use std::alloc::Global;
 
 /// Where batches are appended. It is not `Drop`: `into_disk` ends it.

@@ -1,6 +1,6 @@
 //! A journal: a file of records, each with the bytes of a batch, that is open for appends.
 ghost use Rattle.std.specs.Prelude.{◌≡◌, ◌++◌, ◌∷◌, [], ℕ, List, map};
-ghost use Rattle.router_core.specs.Batch.{Batch};
+ghost use Rattle.router_requests.specs.Batch.{Batch};
 ghost use Rattle.router_core.specs.Tables.{Tables};
 ghost use Rattle.record_file.specs.Records.{IsText, laid};
 ghost use Rattle.duty_journal.specs.Batch.{batch_bytes};

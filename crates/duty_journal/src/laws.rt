@@ -8,7 +8,7 @@ ghost use Rattle.delivery_duties.specs.declared.duty.NewDuty.{NewDuty};
 ghost use Rattle.entry_bytes.specs.Duty.{IsNamed};
 ghost use Rattle.router_core.specs.Admitted.{IsAdmitted};
 ghost use Rattle.router_core.specs.Tables.{Tables, after_batch, first_tables};
-ghost use Rattle.router_core.specs.Batch.{Batch};
+ghost use Rattle.router_requests.specs.Batch.{Batch};
 ghost use Rattle.duty_journal.specs.Batch.{batch_bytes, FitsBytes, IsReadable, NamesRules};
 ghost use Rattle.duty_journal.specs.Journal.{AreKept, IsDamagedJournal, IsJournal};
 ghost use Rattle.duty_journal.specs.Redo.{HasNoClaim};

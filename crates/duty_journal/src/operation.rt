@@ -3,9 +3,9 @@ ghost use Rattle.std.specs.Prelude.{◌≡◌, IfOk};
 ghost use Rattle.entry_bytes.specs.Reading.{Gives, Finds, pair_at, made_at, eight_at, text_at};
 ghost use Rattle.entry_bytes.specs.ChangeReading.{change_at};
 ghost use Rattle.entry_bytes.specs.DutyReading.{outcome_at};
-ghost use Rattle.router_core.specs.Batch.{control};
+ghost use Rattle.router_requests.specs.Batch.{control};
 ghost use Rattle.std.specs.Option.{option_map};
-ghost use Rattle.router_core.specs.View.{accepted_of, stepped_of, entry_of};
+ghost use Rattle.router_requests.specs.View.{accepted_of, stepped_of, entry_of};
 ghost use Rattle.duty_journal.specs.Batch.{HasValidTexts};
 ghost use Rattle.duty_journal.specs.Reading.{event_at, started_at, stepped_at, attempt_of, deleted_of, other_at, operation_at};
 
@@ -15,7 +15,7 @@ use entry_bytes::{
 };
 use json_text::Text;
 use replay_run::{RuleNames, TimeRange};
-use router_core::{AcceptedEvent, Entry, StartedReplay, SteppedReplay};
+use router_requests::{AcceptedEvent, Entry, StartedReplay, SteppedReplay};
 use shared_text::SharedText;
 use std::alloc::Global;
 

@@ -1,6 +1,6 @@
 //! Batches with the text of their append.
 ghost use Rattle.std.specs.Prelude.{◌≡◌, ◌<◌, ◌++◌, ◌∷◌, [], map, length, IfOk, OnOk, OnErr};
-ghost use Rattle.router_core.specs.View.{batch_of};
+ghost use Rattle.router_requests.specs.View.{batch_of};
 ghost use Rattle.record_file.specs.Records.{IsText};
 ghost use Rattle.duty_journal.specs.Batch.{batch_bytes, FitsBytes};
 
@@ -8,8 +8,8 @@ use crate::put::put_batch;
 use http_server::Log;
 use json_text::{Bytes, NoMemory};
 use record_file::Text;
-use router_core::Batch;
 use router_disk::Pieces;
+use router_requests::Batch;
 use std::alloc::Global;
 use std::marker::Model;
 
@@ -23,8 +23,8 @@ pub struct Prepared {
 
 impl Model for Prepared {
     ghost use Rattle.std.specs.Prelude.{◌≡◌, ◌<◌, List, map, length};
-    ghost use Rattle.router_core.specs.Batch.{Batch as BatchView};
-    ghost use Rattle.router_core.specs.View.{batch_of};
+    ghost use Rattle.router_requests.specs.Batch.{Batch as BatchView};
+    ghost use Rattle.router_requests.specs.View.{batch_of};
     ghost use Rattle.duty_journal.specs.Batch.{batch_bytes};
 
     ghost Value = { List BatchView };

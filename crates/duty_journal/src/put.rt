@@ -4,7 +4,7 @@ ghost use Rattle.std.specs.List.{flat_map, AllByRecursion};
 ghost use Rattle.entry_bytes.specs.Fields.{two_bytes, eight_bytes, text_bytes, IsText};
 ghost use Rattle.entry_bytes.specs.Duty.{IsDuty};
 ghost use Rattle.std.specs.Option.{option_map};
-ghost use Rattle.router_core.specs.View.{accepted_of, stepped_of, entry_of, batch_of};
+ghost use Rattle.router_requests.specs.View.{accepted_of, stepped_of, entry_of, batch_of};
 ghost use Rattle.duty_journal.specs.Batch.{accepted_bytes, started_bytes, stepped_bytes, operation_bytes, batch_bytes, IsAccepted, IsStarted, IsStepped, IsOperation, FitsBytes};
 
 use entry_bytes::{
@@ -13,7 +13,7 @@ use entry_bytes::{
 };
 use json_text::{Bytes, NoMemory, Text};
 use replay_run::RuleNames;
-use router_core::{AcceptedEvent, Batch, Entry, StartedReplay, SteppedReplay};
+use router_requests::{AcceptedEvent, Batch, Entry, StartedReplay, SteppedReplay};
 
 /// Adds the bytes of the batch. Refused as out of memory if it has no operation, or 65,536 or more, or a text or list of 2^32 or more.
 /// After an `Err` the bytes are as before.

@@ -1,7 +1,7 @@
 //! The record of an attempt.
 ghost use Rattle.std.specs.Prelude.{◌≡◌, [], ◌∷◌};
 ghost use Rattle.record_file.specs.Records.{laid};
-ghost use Rattle.router_core.specs.Batch.{attempt};
+ghost use Rattle.router_requests.specs.Batch.{attempt};
 ghost use Rattle.duty_journal.specs.Batch.{batch_bytes};
 
 use delivery_duties::Outcome;

@@ -1,8 +1,8 @@
 //! Batches that are applied again, as they are read from a journal.
 ghost use Rattle.std.specs.Prelude.{◌≡◌, ◌<◌, ◌≤◌, ◌^◌, [], ◌∷◌, List, ℕ, map, length, IfOk, Err};
 ghost use Rattle.std.specs.List.{AllByRecursion};
-ghost use Rattle.router_core.specs.Batch.{Batch as BatchView};
-ghost use Rattle.router_core.specs.View.{batch_of, entry_of};
+ghost use Rattle.router_requests.specs.Batch.{Batch as BatchView};
+ghost use Rattle.router_requests.specs.View.{batch_of, entry_of};
 ghost use Rattle.router_core.specs.Tables.{after_batch};
 ghost use Rattle.router_core.specs.Admitted.{AreAdmitted, AreOfOneTurn, IsAdmitted};
 ghost use Rattle.router_core.specs.Ready.{ArePartsOf};
@@ -12,7 +12,8 @@ ghost use Rattle.duty_journal.specs.Redo.{HasNoClaim, IsPlanOf, IsRedoOf};
 use crate::admit::{Need, admit_events, admit_one, is_on_time};
 use crate::fault::ReplayFault;
 use delivery_duties::Outcome;
-use router_core::{Batch, Entry, Part, Ready, Tables};
+use router_core::{Part, Ready, Tables};
+use router_requests::{Batch, Entry};
 use std::alloc::Global;
 use std::collections::VecDeque;
 

@@ -4,8 +4,8 @@ ghost use Rattle.std.specs.List.{list_all};
 ghost use Rattle.json_text.specs.Moment.{IsMoment};
 ghost use Rattle.event_shape.specs.Names.{IsShortName, is_short_name};
 ghost use Rattle.replay_run.specs.Replays.{found};
-ghost use Rattle.router_core.specs.Batch.{replay_started, replay_stepped};
-ghost use Rattle.router_core.specs.View.{stepped_of};
+ghost use Rattle.router_requests.specs.Batch.{replay_started, replay_stepped};
+ghost use Rattle.router_requests.specs.View.{stepped_of};
 ghost use Rattle.router_core.specs.Admitted.{IsCancellationAdmitted, IsStartAdmitted, IsStepAdmitted};
 ghost use Rattle.router_core.specs.Ready.{IsMadeOn, IsPartOf};
 ghost use Rattle.duty_journal.specs.Redo.{IsNextOfReplay};
@@ -15,7 +15,8 @@ use crate::fault::ReplayFault;
 use event_shape::{is_replay_name, is_rule_name};
 use json_text::{NoMemory, Text};
 use replay_run::{MOST_RUNNING, RuleNames, TimeRange};
-use router_core::{Part, StartedReplay, SteppedReplay, Tables};
+use router_core::{Part, Tables};
+use router_requests::{StartedReplay, SteppedReplay};
 use std::alloc::Global;
 
 /// The part of the start, if the tables admit it: its selection is made again of the archives that they have.

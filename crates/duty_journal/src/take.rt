@@ -2,14 +2,14 @@
 ghost use Rattle.std.specs.Prelude.{◌≡◌, map, IfOk, MatchOption};
 ghost use Rattle.std.specs.List.{AllByRecursion};
 ghost use Rattle.entry_bytes.specs.Reading.{Finds, items_at};
-ghost use Rattle.router_core.specs.View.{entry_of, batch_of};
+ghost use Rattle.router_requests.specs.View.{entry_of, batch_of};
 ghost use Rattle.duty_journal.specs.Batch.{batch_bytes, HasValidTexts, IsReadable, IsNoBatch};
 ghost use Rattle.duty_journal.specs.Reading.{operation_at, operations_at, batch_at};
 
 use crate::operation::take_operation;
 use entry_bytes::{ReadFault, take_u16, take_u64};
 use json_text::NoMemory;
-use router_core::{Batch, Entry};
+use router_requests::{Batch, Entry};
 use std::alloc::Global;
 
 /// The batch with these bytes. `None` if there is none that could be read back from its bytes. The duties of an event share its text if

@@ -11,7 +11,7 @@ use Rattle.bus_host.specs.declared.host.HostFault.TheVariants as host
 use Rattle.program_lines.specs.declared.status.Status.{Status}
 use Rattle.program_lines.specs.declared.status.Status.TheVariants as statuses
 use Rattle.program_lines.specs.Printed.{summary_lines}
-use Rattle.router_core.specs.Batch.{Batch}
+use Rattle.router_requests.specs.Batch.{Batch}
 use Rattle.router_core.specs.Tables.{first_tables, tables_after}
 use Rattle.duty_journal.specs.declared.fault.JournalFault.{JournalFault}
 use Rattle.duty_journal.specs.declared.fault.JournalFault.TheVariants as faults

@@ -1,13 +1,19 @@
 -- What is written for one message.
 use Rattle.std.specs.Prelude.{◌≡◌, ℕ, Bool, List, Result, Ok, Err, codes}
 use Rattle.json_text.specs.declared.base.NoMemory.{NoMemory}
-use Rattle.api_replies.specs.Reply.{Reply, Counts, counted, limit_reply, no_memory, refused, refusal}
+use Rattle.router_requests.specs.Request.{Action, deliver_due, step_replays}
+use Rattle.api_replies.specs.Reply.{Reply, Counts, counted, stepped, limit_reply, no_memory, refused, refusal}
 use Rattle.api_replies.specs.Written.{reply_text}
 use Rattle.api_members.specs.declared.fault.CallFault.{CallFault}
 use Rattle.api_members.specs.declared.fault.CallFault.TheVariants as faults
 use Rattle.courier_run.specs.declared.turned.Turned.{Turned}
 use Rattle.courier_run.specs.declared.stepped.Stop.{Stop}
 use Rattle.courier_run.specs.declared.stepped.Stop.TheVariants as stops
+use Rattle.step_run.specs.declared.fault.StepFault.{StepFault}
+use Rattle.step_run.specs.declared.fault.StepFault.TheVariants as step_faults
+use Rattle.step_run.specs.declared.fault.StepsFault.{StepsFault}
+use Rattle.message_streams.specs.declared.delivery.StepsAsked.{StepsAsked}
+use Rattle.message_streams.specs.declared.delivery.StepsAsked.TheVariants.{Deliveries, Replays}
 
 -- The bytes, or the reply `out of memory`.
 -- Shown by: the_reply_is_not_written.edit.
@@ -39,3 +45,22 @@ steps_reply turned stops.Idle = counted (counts_of turned)
 steps_reply turned stops.Full = limit_reply
 steps_reply turned stops.Broken = journal_failed
 steps_reply turned stops.NoMemory = no_memory
+
+-- The action asks for these steps, within this budget.
+-- Shown by: the_default_budget_is_the_limit.edit.
+abbrev pub IsAskedBy : Action → StepsAsked → Type 0
+IsAskedBy action (Deliveries budget) = action ≡ deliver_due budget
+IsAskedBy action (Replays budget) = action ≡ step_replays budget
+
+-- the reply to steps of replays that this fault stopped
+abbrev pub fault_reply : StepFault → Reply
+fault_reply step_faults.NumberLimit = limit_reply
+fault_reply step_faults.Broken = journal_failed
+fault_reply step_faults.NoMemory = no_memory
+
+-- The reply to a StepReplays, by what its steps returned: their number, or `limit_reply`, `journal_failed` or `no_memory`, however many were made
+-- before.
+-- Shown by: replays.
+abbrev pub replays_reply : Result ℕ StepsFault → Reply
+replays_reply (Ok steps) = stepped steps
+replays_reply (Err stopped) = fault_reply stopped.fault

@@ -1,28 +1,37 @@
-//! A DeliverDue: its budget and its reply.
+//! A DeliverDue and a StepReplays: their budgets and their replies.
 ghost use Rattle.std.specs.Prelude.{◌≡◌, IfOk, MatchOption};
-ghost use Rattle.router_core.specs.Request.{deliver_due, IsOneTurn};
-ghost use Rattle.router_core.specs.View.{action_of};
+ghost use Rattle.router_requests.specs.Request.{IsOneTurn};
+ghost use Rattle.router_requests.specs.View.{action_of};
 ghost use Rattle.router_disk.specs.Faults.{CountsFaults};
 ghost use Rattle.router_disk.specs.Sink.{AddsBytes};
 ghost use Rattle.api_replies.specs.Reply as replies;
 ghost use Rattle.api_replies.specs.Written.{reply_text};
-ghost use Rattle.message_streams.specs.Reply.{steps_reply};
+ghost use Rattle.message_streams.specs.Reply.{replays_reply, steps_reply, IsAskedBy};
 
 use crate::failed::journal_failed_reply;
 use crate::reply::reply_bytes;
 use api_replies::{CountsReply, limit_reply, no_memory_reply};
 use courier_run::{Stepped, Stop};
 use json_text::{Bytes, NoMemory};
-use router_core::Action;
 use router_disk::{Failed, Sink};
+use router_requests::Action;
 use std::alloc::Global;
+use step_run::{StepFault, StepsFault};
 
-/// The budget of a DeliverDue. `None` for every other request.
-pub fn delivery_budget(action: &Action) -> Option<u32>
-    ensures { MatchOption result (IsOneTurn (action_of action.now)) (λ budget. action_of action.now ≡ deliver_due budget) }
+/// The steps that a request asks for, at most so many.
+#[derive(Clone, Copy, Debug, PartialEq, Eq)]
+pub enum StepsAsked {
+    Deliveries(u32),
+    Replays(u32),
+}
+
+/// The steps that the request asks for. `None` if it is done by one turn.
+pub fn steps_asked(action: &Action) -> Option<StepsAsked>
+    ensures { MatchOption result (IsOneTurn (action_of action.now)) (IsAskedBy (action_of action.now)) }
 {
     match action {
-        Action::DeliverDue { budget } => Some(*budget),
+        Action::DeliverDue { budget } => Some(StepsAsked::Deliveries(*budget)),
+        Action::StepReplays { budget } => Some(StepsAsked::Replays(*budget)),
         Action::CreateEventBus { .. }
         | Action::DeleteEventBus { .. }
         | Action::DescribeEventBus { .. }
@@ -47,6 +56,10 @@ pub fn delivery_budget(action: &Action) -> Option<u32>
         | Action::DeleteArchive { .. }
         | Action::DescribeArchive { .. }
         | Action::ListArchives { .. }
+        | Action::StartReplay { .. }
+        | Action::CancelReplay { .. }
+        | Action::DescribeReplay { .. }
+        | Action::ListReplays { .. }
         | Action::CreateQueue { .. }
         | Action::DeleteQueue { .. }
         | Action::PeekMessages { .. }
@@ -55,8 +68,8 @@ pub fn delivery_budget(action: &Action) -> Option<u32>
     }
 }
 
-/// Room for the reply to a DeliverDue, and the reply if the number limit is reached.
-pub fn delivery_room(alloc: Global, close: bool) -> Result<(CountsReply, Bytes), NoMemory>
+/// Room for the reply to steps, and the reply if the number limit is reached.
+pub fn steps_room(alloc: Global, close: bool) -> Result<(CountsReply, Bytes), NoMemory>
     ensures { IfOk result (λ p. p.1 ≡ reply_text replies.limit_reply close) }
 {
     let room = CountsReply::new(alloc)?;
@@ -91,5 +104,27 @@ pub fn write_delivery<K: Sink>(
         Stop::Full => output.write_all(limit),
         Stop::Broken => output.write_all(journal_failed_reply(close)),
         Stop::NoMemory => output.write_all(no_memory_reply(close)),
+    }
+}
+
+/// Writes the reply to the steps of replays that were made. It takes no memory.
+pub fn write_replays<K: Sink>(
+    mut room: CountsReply,
+    limit: &[u8],
+    made: Result<u32, StepsFault>,
+    close: bool,
+    output: &mut K,
+) -> Result<(), Failed>
+    requires limit { limit.now ≡ reply_text replies.limit_reply close }
+    ensures writes { AddsBytes (K.wrote output.old) (K.wrote output.new) result (reply_text (replays_reply made) close) }
+    ensures count { CountsFaults (K.faults output.old) (K.faults output.new) result }
+{
+    match made {
+        Ok(steps) => output.write_all(room.fill_steps(steps, close)),
+        Err(stopped) => match stopped.fault {
+            StepFault::NumberLimit => output.write_all(limit),
+            StepFault::Broken => output.write_all(journal_failed_reply(close)),
+            StepFault::NoMemory => output.write_all(no_memory_reply(close)),
+        },
     }
 }

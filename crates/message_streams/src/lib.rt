@@ -9,7 +9,7 @@ mod incoming;
 mod refused;
 mod reply;
 
-pub use delivery::{delivery_budget, delivery_room, write_delivery};
+pub use delivery::{StepsAsked, steps_asked, steps_room, write_delivery, write_replays};
 pub use failed::journal_failed_reply;
 pub use farewell::{SessionEnd, finish};
 pub use gated::Gated;

@@ -21,11 +21,12 @@ use Rattle.door_workers.specs.Serving.{Session, Worked, IsWorker, session_of, Is
 use Rattle.router_core.specs.Tables.{first_tables}
 use Rattle.courier_run.specs.Act.{reads, ticks, looks, makes, tries, writes}
 use Rattle.router_history.specs.declared.history.Turn as code
-use Rattle.router_history.specs.History.{Turn, Ask, State, opens, asked, claims, records, puts_back, breaks, begun, state_of, after_turn, turns_by, IsLegal, IsTurnFor, AreTurnsFrom}
+use Rattle.router_history.specs.History.{Turn, Ask, State, opens, asked, claims, records, puts_back, repeats, breaks, begun, state_of, after_turn, turns_by, IsLegal, IsTurnFor, AreTurnsFrom}
 use Rattle.router_history.specs.Book.{opening, IsBook, turn_of}
 use Rattle.tables_summary.specs.Summary.{summary_of}
 use Rattle.router_history.specs.Acts.{Act, Happens, IsNamed}
 use Rattle.router_history.proofs.TurnLemmas.{first_other}
+use Rattle.session_workers.specs.Jobs as jobs
 use Rattle.session_workers.specs.Jobs.{Jobs, nothing, serves, steps, looks_on, reads_clock, did_by}
 use Rattle.bus_server.specs.Serve.{AroundDoor, AtDoor, EndsServing, IsMadeBy, IsOpened, IsServe, IsUnbroken}
 use Rattle.program_tests.specs.Printed.{zeros, PrintsZeros}
@@ -37,11 +38,12 @@ no_turn turn (asked request) none h = let both : true ≡ false = sym h.1 ∙ ap
 no_turn turn (claims c) none h = cc h.there
 no_turn turn (records a) none h = cc h.ends.own
 no_turn turn (puts_back c why) none h = cc h.1.own
+no_turn turn (repeats reading) none h = cc h.step.next.first
 no_turn turn (breaks unsure) none h = cc h.journal
 
 none_follows : (turns : List Turn) → All (λ t. t.connection ≡ None) turns → AreTurnsFrom (begun first_tables) turns → turns ≡ []
 none_follows [] all legal = refl
-none_follows (turn ∷ turns) all legal = absurd (no_turn turn turn.ask (All-head (λ (t : Turn). t.connection ≡ None) turn turns all) legal.0)
+none_follows (turn ∷ turns) all legal = absurd (no_turn turn turn.ask (All-head (λ (t : Turn). t.connection ≡ None) turn turns all) legal.0.made_for)
 
 summed : (turns later : List Turn) → IsBook turns → turns ≡ opening ∷ later → All (λ t. t.connection ≡ None) later → summary_of (state_of turns).tables ≡ zeros
 summed turns later h opened all =
@@ -90,6 +92,8 @@ quiet gave wrote history n _ _ nothing none = All-nil (IsNamed None)
 quiet gave wrote history n _ _ (serves acts job sessions s jobs is) none = absurd (one_more sessions s none)
 quiet gave wrote history n _ _ (steps acts job sessions budget turned stop jobs is named) none =
     All-append (IsNamed None) acts job (quiet gave wrote history n acts sessions jobs none) named
+quiet gave wrote history n _ _ (jobs.repeats acts job sessions budget result before is named) none =
+    All-append (IsNamed None) acts job (quiet gave wrote history n acts sessions before none) named
 quiet gave wrote history n _ _ (looks_on acts sessions s jobs) none = All-push (IsNamed None) acts (looks s) (quiet gave wrote history n acts sessions jobs none) tt
 quiet gave wrote history n _ _ (reads_clock acts sessions reading jobs) none =
     All-push (IsNamed None) acts (ticks reading) (quiet gave wrote history n acts sessions jobs none) tt

@@ -33,6 +33,23 @@ fn a_quiet_door_lets_its_worker_deliver(rt: HostRuntime) {
     meet(&rt, rt.alloc(), row, want);
 }
 
+// The worker makes both steps of the replay while the door is quiet for the first time, and delivers what they made the next time.
+#[test]
+fn a_quiet_door_lets_its_worker_step_and_then_deliver(rt: HostRuntime) {
+    let once =
+        "ebusd serve --workers 1 --connections 2 --port 8080||queue archive events replay rule target;quiet|16 failed|";
+    let stepped =
+        "Done 0||listening 8080\nrecords 8 entries 9 control 4\nevents 2 archived 2 replays 1\n\
+        duties 2 pending 2 delivered 0 dead-lettered 0 dropped 0\nmessages 0\n|0 0|+0|door 0|=queue archive events replay rule target";
+    meet(&rt, rt.alloc(), once, stepped);
+    let twice =
+        "ebusd serve --workers 1 --connections 2 --port 8080||queue archive events replay rule target;quiet;quiet|16 failed|";
+    let delivered =
+        "Done 0||listening 8080\nrecords 10 entries 11 control 4\nevents 2 archived 2 replays 1\n\
+        duties 2 pending 0 delivered 2 dead-lettered 0 dropped 0\nmessages 2\n|0 0|+0|door 0|=queue archive events replay rule target";
+    meet(&rt, rt.alloc(), twice, delivered);
+}
+
 #[test]
 fn a_delivery_to_an_endpoint_goes_by_the_workers_link(rt: HostRuntime) {
     let row =

@@ -12,20 +12,21 @@ use Rattle.event_shape.specs.Unnumbered.{Unnumbered}
 use Rattle.api_replies.specs.declared.cause.Cause.{Cause}
 use Rattle.api_replies.specs.Reply.{Reply}
 use Rattle.rule_table.specs.RuleSet.{RuleSet}
-use Rattle.router_core.specs.Batch as batch
-use Rattle.router_core.specs.Matching.{AreArchivesOf, AreSeenEntries, AreTargetsOf, IsSeenResult}
-use Rattle.router_core.specs.Request.{Action, Request, IsPublishing, put_events}
+use Rattle.router_requests.specs.Batch as batch
+use Rattle.router_requests.specs.Matching.{AreArchivesOf, AreSeenEntries, AreTargetsOf, IsSeenResult}
+use Rattle.router_requests.specs.Request.{Action, Request, IsPublishing, put_events}
 use Rattle.router_core.specs.Tables.{Tables, is_full, moment_at}
-use Rattle.router_core.specs.Verdict.{IsEntryVerdict}
-use Rattle.router_core.specs.declared.seen.SeenArchive.{SeenArchive}
-use Rattle.router_core.specs.declared.seen.SeenEntry.{SeenEntry}
-use Rattle.router_core.specs.declared.seen.SeenResult.{SeenResult}
-use Rattle.router_core.specs.declared.seen.SeenResult.TheVariants.{Entries, Tested, Nothing}
-use Rattle.router_core.specs.declared.seen.SeenTarget.{SeenTarget}
-use Rattle.router_core.specs.declared.seen.SeenVerdict.{SeenVerdict}
-use Rattle.router_core.specs.declared.seen.SeenVerdict.TheVariants as verdict
+use Rattle.router_requests.specs.Verdict.{IsEntryVerdict}
+use Rattle.router_requests.specs.declared.seen.SeenArchive.{SeenArchive}
+use Rattle.router_requests.specs.declared.seen.SeenEntry.{SeenEntry}
+use Rattle.router_requests.specs.declared.seen.SeenResult.{SeenResult}
+use Rattle.router_requests.specs.declared.seen.SeenResult.TheVariants.{Entries, Tested, Nothing}
+use Rattle.router_requests.specs.declared.seen.SeenTarget.{SeenTarget}
+use Rattle.router_requests.specs.declared.seen.SeenVerdict.{SeenVerdict}
+use Rattle.router_requests.specs.declared.seen.SeenVerdict.TheVariants as verdict
 use Rattle.router_calls.specs.Accepted.{Given, Placed, ArePlaced, IsAcceptedAs, IsEventPlaced, IsPlaced, archives_kept, events_in, found_of, number_after}
-use Rattle.router_calls.specs.Answer.{Answer, Decided, HasPlaced, IsAnswer, decided, publication, written}
+use Rattle.resource_calls.specs.Decision.{Decided}
+use Rattle.router_calls.specs.Answer.{Answer, HasPlaced, IsAnswer, decided, publication, written}
 use Rattle.router_calls.specs.Allowed.{IsAllowedEvent, IsAllowedEntry, IsPublishedBy, entries_in}
 use Rattle.router_calls.proofs.FormLemmas.{its_event}
 

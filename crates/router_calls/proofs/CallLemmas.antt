@@ -10,13 +10,14 @@ use Rattle.event_time.specs.Time.{IsIso}
 use Rattle.event_shape.specs.Names.{is_account}
 use Rattle.rule_table.specs.RuleSet.{RuleSet}
 use Rattle.rule_table.specs.Sound.{IsSound}
-use Rattle.router_core.specs.Request.{Action, Request, put_events, put_statement, remove_statement, test_event_pattern, AreEntriesOf, IsEntryOf, IsEntitled, IsOneTurn}
+use Rattle.router_requests.specs.Request.{Action, Request, put_events, put_statement, remove_statement, test_event_pattern, AreEntriesOf, IsEntryOf, IsEntitled, IsOneTurn}
 use Rattle.router_core.specs.Tables.{Tables, moment_at}
-use Rattle.router_core.specs.Matching.{HasValue, IsSeen}
-use Rattle.router_core.specs.declared.seen.Seen.{Seen}
-use Rattle.router_core.specs.Bounds.{IsBounded}
+use Rattle.router_requests.specs.Matching.{HasValue, IsSeen}
+use Rattle.router_requests.specs.declared.seen.Seen.{Seen}
+use Rattle.router_requests.specs.Bounds.{IsBounded}
 use Rattle.router_calls.specs.Accepted.{Given, Placed}
-use Rattle.router_calls.specs.Answer.{Answer, Decided, HasPlaced, IsAnswer, answer_at, decided}
+use Rattle.resource_calls.specs.Decision.{Decided}
+use Rattle.router_calls.specs.Answer.{Answer, HasPlaced, IsAnswer, answer_at, decided}
 use Rattle.router_calls.specs.Matched.{IsMatchedOn}
 use Rattle.router_calls.specs.Permission.{IsPolicyNamed}
 use Rattle.router_calls.specs.Steps.{HasAccount, HaveAccounts, IsDecidedAs, IsSeenOn}

@@ -16,29 +16,30 @@ use Rattle.api_replies.specs.Reply.{Reply}
 use Rattle.name_rows.specs.Rows.{AreSorted}
 use Rattle.rule_table.specs.RuleSet.{RuleSet, has_archive}
 use Rattle.rule_table.specs.Sound.{IsSound}
-use Rattle.router_core.specs.Batch as batch
-use Rattle.router_core.specs.View.{accepted_of, entry_of}
-use Rattle.router_core.specs.Request.{put_events}
+use Rattle.router_requests.specs.Batch as batch
+use Rattle.router_requests.specs.View.{accepted_of, entry_of}
+use Rattle.router_requests.specs.Request.{put_events}
 use Rattle.router_core.specs.Tables.{Tables, after_entry}
 use Rattle.router_core.specs.Admitted.{IsEventAdmitted, AreAdmitted, IsAnEvent}
 use Rattle.router_core.specs.Ready.{IsPartOf, ArePartsOf, IsNoStart, set_after}
 use Rattle.router_core.proofs.StartLemmas.{made_on}
-use Rattle.router_core.specs.Matching.{AreArchivesOf, AreKeepingFor, AreMatchedFor, AreSeenEntries, AreTargetsOf, IsSeenEntry}
-use Rattle.router_core.specs.declared.seen.SeenArchive.{SeenArchive}
-use Rattle.router_core.specs.declared.seen.SeenEntry.{SeenEntry}
-use Rattle.router_core.specs.declared.seen.SeenTarget.{SeenTarget}
-use Rattle.router_core.specs.declared.batch.AcceptedEvent.{AcceptedEvent}
+use Rattle.router_requests.specs.Matching.{AreArchivesOf, AreKeepingFor, AreMatchedFor, AreSeenEntries, AreTargetsOf, IsSeenEntry}
+use Rattle.router_requests.specs.declared.seen.SeenArchive.{SeenArchive}
+use Rattle.router_requests.specs.declared.seen.SeenEntry.{SeenEntry}
+use Rattle.router_requests.specs.declared.seen.SeenTarget.{SeenTarget}
+use Rattle.router_requests.specs.declared.batch.AcceptedEvent.{AcceptedEvent}
 use Rattle.router_core.specs.declared.ready.Part.{Part}
-use Rattle.router_core.specs.declared.seen.SeenVerdict.{SeenVerdict}
-use Rattle.router_core.specs.declared.seen.SeenVerdict.TheVariants as verdict
-use Rattle.router_core.proofs.MatchingLemmas.{few_matched}
-use Rattle.router_core.proofs.DutyLemmas.{duties_count, duties_short}
+use Rattle.router_requests.specs.declared.seen.SeenVerdict.{SeenVerdict}
+use Rattle.router_requests.specs.declared.seen.SeenVerdict.TheVariants as verdict
+use Rattle.router_requests.proofs.MatchingLemmas.{few_matched}
+use Rattle.router_requests.proofs.DutyLemmas.{duties_count, duties_short}
 use Rattle.router_calls.specs.Accepted.{Given, Placed, ArePlaced, IsAcceptedAs, IsEventPlaced, IsPlaced, events_in, failures_in}
 use Rattle.router_calls.specs.Accepted.{Found, archives_kept, found_of, number_after, numbered_tree}
 use Rattle.router_calls.proofs.KeptLemmas.{kept_sorted, kept_there}
 use Rattle.call_replies.specs.Replies.{items_reply}
-use Rattle.router_calls.specs.Answer.{entry_report, entries_reply, publication, published, refusal, Decided}
-use Rattle.router_core.specs.Bounds.{IsBounded, IsForBus}
+use Rattle.resource_calls.specs.Decision.{refusal, Decided}
+use Rattle.router_calls.specs.Answer.{entry_report, entries_reply, publication, published}
+use Rattle.router_requests.specs.Bounds.{IsBounded, IsForBus}
 use Rattle.router_calls.specs.Steps.{Adds, AreReady, HasAccount, IsEventAdded, IsRefusalAdded, Places, placed_decided}
 use Rattle.router_calls.specs.declared.put_events.PlacedEntries.{PlacedEntries}
 

@@ -1,8 +1,9 @@
 -- The form of an answer: its reply has a status of those that are written from a value, and its batch, if there is one, has only operations
 -- that its action asks for. `request_form` says so of each request; `its_change` follows, which the law of src/laws.rt cites.
 use Rattle.std.proofs.Common.{◌≡◌, ℕ, inl, inr, Bool, true, false, List, [], ◌∷◌, map, Option, Some, None, sym, refl, subst}
-use Rattle.std.specs.Prelude.{All, cond, is_some, nat_lt, not, ◌&&◌}
+use Rattle.std.specs.Prelude.{All, cond, is_some, length, nat_lt, not, ◌&&◌}
 use Rattle.std.specs.List.{Contains}
+use Rattle.std.specs.Str.{bytes_eq}
 use Rattle.std.proofs.lemmas.List.Elements.{All-cons, All-nil, All-contains}
 use Rattle.json_text.specs.Limits.{most_together}
 use Rattle.json_text.specs.Tree.{Tree}
@@ -14,7 +15,9 @@ use Rattle.archive_keep.specs.Archive.{Archive}
 use Rattle.archive_keep.specs.Archives.{name_of}
 use Rattle.rule_table.specs.RuleSet.{Archive as Row, Rule, Bus, RuleSet, archive_at, has_bus, has_queue, rule_at}
 use Rattle.delivery_duties.specs.Duties.{names_queue}
-use Rattle.replay_run.specs.Replays.{is_sent_to}
+use Rattle.replay_run.specs.declared.row.ReplayRow.{ReplayRow}
+use Rattle.replay_run.specs.Replays.{is_running, is_sent_to, most_running, running}
+use Rattle.replay_run.specs.Replays as replays
 use Rattle.delivery_queues.specs.declared.stored.StoredMessage.{StoredMessage}
 use Rattle.delivery_queues.specs.Queues.{messages_of, messages_through}
 use Rattle.api_replies.specs.declared.kind.Kind.TheVariants as kind
@@ -25,35 +28,40 @@ use Rattle.api_replies.specs.Reply.{Reply}
 use Rattle.api_replies.specs.Written.{IsServedStatus}
 use Rattle.config_views.specs.Views as views
 use Rattle.config_views.specs.Archives as shown_of
+use Rattle.config_views.specs.Replays as replay_views
 use Rattle.call_replies.specs.Causes.{change_cause}
-use Rattle.router_core.specs.Batch as batch
-use Rattle.router_core.specs.Request.{Action, Request, create_event_bus, delete_event_bus, describe_event_bus, list_event_buses, put_rule, delete_rule}
-use Rattle.router_core.specs.Request.{put_rule_state, describe_rule, list_rules, put_targets, remove_targets, list_targets_by_rule}
-use Rattle.router_core.specs.Request.{list_rule_names_by_target, put_policy, put_statement, remove_policy, remove_statement, put_events}
-use Rattle.router_core.specs.Request.{test_event_pattern, create_archive, update_archive, delete_archive, describe_archive, list_archives}
-use Rattle.router_core.specs.Request.{create_queue, delete_queue, peek_messages, delete_messages, duty_counts, deliver_due}
-use Rattle.router_core.specs.Request.{IsPublishing}
+use Rattle.router_requests.specs.Batch as batch
+use Rattle.router_requests.specs.Request.{Action, Request, create_event_bus, delete_event_bus, describe_event_bus, list_event_buses, put_rule, delete_rule}
+use Rattle.router_requests.specs.Request.{put_rule_state, describe_rule, list_rules, put_targets, remove_targets, list_targets_by_rule}
+use Rattle.router_requests.specs.Request.{list_rule_names_by_target, put_policy, put_statement, remove_policy, remove_statement, put_events}
+use Rattle.router_requests.specs.Request.{test_event_pattern, create_archive, update_archive, delete_archive, describe_archive, list_archives}
+use Rattle.router_requests.specs.Request.{start_replay, cancel_replay, describe_replay, list_replays, step_replays}
+use Rattle.router_requests.specs.Request.{create_queue, delete_queue, peek_messages, delete_messages, duty_counts, deliver_due}
+use Rattle.router_requests.specs.declared.batch.StartedReplay.{StartedReplay}
+use Rattle.router_requests.specs.Request.{IsPublishing}
 use Rattle.router_core.specs.Tables.{Tables, is_full, moment_at}
-use Rattle.router_core.specs.declared.seen.SeenResult.{SeenResult}
+use Rattle.router_requests.specs.declared.seen.SeenResult.{SeenResult}
 use Rattle.router_calls.specs.Accepted.{Placed}
-use Rattle.router_calls.specs.Answer.{Answer, Decided, IsAnswer, decided, for_archive, for_rule, lacks_rule, on_archive, on_bus, on_rule, change_reply, controlled}
-use Rattle.router_calls.specs.Answer.{deletion_of, refusal, shown, unless_none, unless_refused, written, writes}
-use Rattle.router_calls.specs.Changes.{MayMake}
+use Rattle.resource_calls.specs.Decision.{Decided, for_archive, on_archive, change_reply, controlled}
+use Rattle.router_calls.specs.Answer.{Answer, IsAnswer, decided, for_rule, lacks_rule, on_bus, on_rule}
+use Rattle.resource_calls.specs.Decision.{cancellation_of, deletion_of, refusal, shown, start_of, unless_refused, writes}
+use Rattle.router_calls.specs.Answer.{unless_none, written}
+use Rattle.router_calls.specs.Changes.{MayMake, MayReplay, MayStart, MayCancel}
 use Rattle.router_calls.specs.Permission.{IsPolicyNamed, has_statement}
 use Rattle.router_calls.specs.Removals.{removed_ids}
 use Rattle.router_calls.specs.Targets.{accepted_targets}
 use Rattle.router_calls.proofs.TargetLemmas.{accepted_within}
 use Rattle.router_calls.proofs.RemovalLemmas.{removed_within}
 
--- an operation that the action asks for on these tables: of changes of the configuration its own, an event of a PutEvents, and no record of
--- an attempt
+-- an operation that the action asks for on these tables: of changes of the configuration its own, an event of a PutEvents, its own start or
+-- cancellation of a replay, and no record of an attempt and no step of a replay
 abbrev pub IsOf : Tables → Action → batch.Entry → Type 0
 IsOf t action (batch.control c) = MayMake t action c
 IsOf t action (batch.accepted e) = IsPublishing action
 IsOf t action (batch.attempt duty outcome) = ⊥
-IsOf t action (batch.replay_started s) = ⊥
+IsOf t action (batch.replay_started s) = MayStart action s
 IsOf t action (batch.replay_stepped s) = ⊥
-IsOf t action (batch.replay_cancelled name) = ⊥
+IsOf t action (batch.replay_cancelled name) = MayCancel action name
 IsOf t action (batch.messages_deleted queue through) = Unit {0}
 
 abbrev pub AreOf : Tables → Action → List batch.Entry → Type 0
@@ -141,6 +149,23 @@ deletion : (t : Tables) (action : Action) (queue : List ℕ) (through : ℕ) (me
 deletion t action queue through [] = alone t action _ (inl refl)
 deletion t action queue through (m ∷ ms) = one t action _ _ (inl refl) tt
 
+-- ---- replays
+
+start : (t : Tables) (moment : ℕ) (s : StartedReplay) (bus : List ℕ) (row : Row) (archive : Archive)
+    → IsFormed t (start_replay s bus) (start_of t moment s bus row archive)
+start t moment s bus row archive =
+    either t (start_replay s bus) (not (bytes_eq bus row.bus)) _ _ (refused t _ cause.OtherDestination)
+    (either t (start_replay s bus) (nat_lt s.range.end s.range.start) _ _ (refused t _ cause.EmptyRange)
+    (either t (start_replay s bus) (nat_lt (length (running t.replays)) most_running) _ _
+    (one t (start_replay s bus) (batch.replay_started s) _ (inl refl) refl)
+    (refused t _ (cause.LimitReached kind.Replay))))
+
+cancellation : (t : Tables) (name : List ℕ) (row : Option ReplayRow) → IsFormed t (cancel_replay name) (cancellation_of name row)
+cancellation t name None = refused t _ (cause.NotFound kind.Replay name)
+cancellation t name (Some row) = either t (cancel_replay name) (is_running row) _ _
+    (one t (cancel_replay name) (batch.replay_cancelled name) _ (inl refl) refl)
+    (refused t _ (cause.NotRunning name))
+
 -- ---- what is shown of the configuration
 
 bus_status : (name : List ℕ) (show : Bus → Reply) → ((bus : Bus) → IsServedStatus (show bus).status) → (bus : Option Bus)
@@ -166,6 +191,10 @@ archive_status : (name : List ℕ) (show : Row → Archive → Reply) → ((row 
 archive_status name show each (Some row) (Some archive) = each row archive
 archive_status name show each (Some row) None = inr (inl refl)
 archive_status name show each None archive = inr (inl refl)
+
+replay_status : (name : List ℕ) (row : Option ReplayRow) → IsServedStatus (replay_views.replay_shown name row).status
+replay_status name None = inr (inl refl)
+replay_status name (Some row) = inl refl
 
 replied : (b : Bool) (x y : Reply) → IsServedStatus x.status → IsServedStatus y.status → IsServedStatus (cond b x y).status
 replied true x y p q = p
@@ -214,6 +243,12 @@ formed t moment seen became policy (delete_archive name) is = changes t _ _ _ (i
 formed t moment seen became policy (describe_archive name) is =
     alone t _ _ (archive_status name _ (λ row archive. inl refl) (archive_at name t.set) (named name_of name t.archives))
 formed t moment seen became policy (list_archives prefix source state) is = alone t _ _ (inl refl)
+formed t moment seen became policy (start_replay s bus) is =
+    either t (start_replay s bus) (is_some (replays.found s.name t.replays)) _ _ (refused t _ (cause.Exists kind.Replay s.name))
+    (at_archive t (start_replay s bus) s.archive _ (λ row archive there kept. start t moment s bus row archive))
+formed t moment seen became policy (cancel_replay name) is = cancellation t name (replays.found name t.replays)
+formed t moment seen became policy (describe_replay name) is = alone t _ _ (replay_status name (replays.found name t.replays))
+formed t moment seen became policy (list_replays prefix source state) is = alone t _ _ (inl refl)
 formed t moment seen became policy (create_queue name) is = changes t _ _ _ (inl refl) refl
 formed t moment seen became policy (delete_queue name) is = either t _ (has_queue name t.set && names_queue name t.duties) _ _
     (refused t _ (cause.InUse kind.Queue name)) (changes t (delete_queue name) _ _ (inl refl) refl)
@@ -222,6 +257,7 @@ formed t moment seen became policy (delete_messages queue through) is = either t
     (deletion t _ queue through (messages_through through (messages_of queue t.duties.queues))) (refused t _ (cause.NotFound kind.Queue queue))
 formed t moment seen became policy duty_counts is = alone t _ _ (inl refl)
 formed t moment seen became policy (deliver_due budget) is = alone t _ _ (inl refl)
+formed t moment seen became policy (step_replays budget) is = alone t _ _ (inl refl)
 
 -- ---- the answer
 
@@ -257,3 +293,19 @@ pub its_event : (t : Tables) (r : Request) (k : ℕ) (set : RuleSet) (a : Answer
 its_event t r k set a b e h is has =
     let all = all_are t r.action b.entries (subst (WritesOf t r.action) is (request_form h).writes) in
     All-contains (IsOf t r.action) b.entries (batch.accepted e) all has
+
+-- an operation that an action asks for starts, steps and cancels no replay but as the action asks
+may_replay : (t : Tables) (action : Action) (e : batch.Entry) → IsOf t action e → MayReplay action e
+may_replay t action (batch.control c) of = tt
+may_replay t action (batch.accepted a) of = tt
+may_replay t action (batch.attempt duty outcome) of = tt
+may_replay t action (batch.replay_started s) of = of
+may_replay t action (batch.replay_stepped s) of = of
+may_replay t action (batch.replay_cancelled name) of = of
+may_replay t action (batch.messages_deleted queue through) of = tt
+
+pub its_replay : (t : Tables) (r : Request) (k : ℕ) (set : RuleSet) (a : Answer) (b : batch.Batch) (e : batch.Entry) → IsAnswer t r k set a
+    → a.batch ≡ Some b → Contains b.entries e → MayReplay r.action e
+its_replay t r k set a b e h is has =
+    let all = all_are t r.action b.entries (subst (WritesOf t r.action) is (request_form h).writes) in
+    may_replay t r.action e (All-contains (IsOf t r.action) b.entries e all has)

@@ -28,11 +28,11 @@ use Rattle.rule_targets.specs.declared.given.GivenInput.{GivenInput}
 use Rattle.rule_targets.specs.declared.given.GivenInput.TheVariants.{Input, InputPath, InputTransformer}
 use Rattle.rule_table.specs.RuleSet.{RuleSet}
 use Rattle.delivery_duties.specs.declared.duty.NewDuty.{NewDuty}
-use Rattle.router_core.specs.Batch as batch
-use Rattle.router_core.specs.Request.{Request}
+use Rattle.router_requests.specs.Batch as batch
+use Rattle.router_requests.specs.Request.{Request}
 use Rattle.router_core.specs.Tables.{Tables}
-use Rattle.router_core.specs.Duties.{scene_at, is_too_long, duty_of, IsTargetText, IsTextOf, IsDutyOf, AreDuties}
-use Rattle.router_core.specs.declared.seen.SeenTarget.{SeenTarget}
+use Rattle.router_requests.specs.Duties.{scene_at, is_too_long, duty_of, IsTargetText, IsTextOf, IsDutyOf, AreDuties}
+use Rattle.router_requests.specs.declared.seen.SeenTarget.{SeenTarget}
 use Rattle.router_calls.specs.Accepted.{HasScenes}
 use Rattle.router_calls.specs.Answer.{Answer, IsAnswer}
 use Rattle.router_calls.proofs.AllowedLemmas.{answer_allowed}

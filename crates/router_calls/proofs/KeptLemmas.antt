@@ -10,8 +10,8 @@ use Rattle.std.proofs.lemmas.List.Elements.{All-nil, All-cons, All-head, All-tai
 use Rattle.json_text.specs.Tree.{Tree}
 use Rattle.name_rows.specs.Rows.{AreSorted}
 use Rattle.rule_table.specs.RuleSet.{Archive, RuleSet, archive_at, archives_of, has_archive}
-use Rattle.router_core.specs.Matching.{AreKeeping, seen_archive}
-use Rattle.router_core.specs.declared.seen.SeenArchive.{SeenArchive}
+use Rattle.router_requests.specs.Matching.{AreKeeping, seen_archive}
+use Rattle.router_requests.specs.declared.seen.SeenArchive.{SeenArchive}
 use Rattle.router_calls.specs.Accepted.{archives_kept, is_made_at, is_still_there}
 
 abbrev name_of : SeenArchive → List ℕ

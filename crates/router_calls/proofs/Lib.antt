@@ -12,10 +12,9 @@ pub mod KeptLemmas
 pub mod EntryLemmas
 pub mod TargetLemmas
 pub mod RemovalLemmas
-pub mod QueueLemmas
-pub mod ArchiveLemmas
 pub mod PolicyLemmas
 pub mod OneLemmas
+pub mod StepLemmas
 pub mod FormLemmas
 pub mod AllowedLemmas
 pub mod JsonLemmas

@@ -10,24 +10,25 @@ use Rattle.name_rows.specs.Rows.{named}
 use Rattle.rule_table.specs.RuleSet.{Bus, RuleSet}
 use Rattle.api_replies.specs.declared.cause.Cause.TheVariants as cause
 use Rattle.delivery_duties.specs.declared.duty.NewDuty.{NewDuty}
-use Rattle.router_core.specs.Batch as batch
-use Rattle.router_core.specs.Matching.{IsSeenEntry, AreArchivesOf, AreSeenEntries, AreTargetsOf, IsSeenResult}
-use Rattle.router_core.specs.Request.{Action, Request, put_statement, remove_statement, put_events, test_event_pattern}
+use Rattle.router_requests.specs.Batch as batch
+use Rattle.router_requests.specs.Matching.{IsSeenEntry, AreArchivesOf, AreSeenEntries, AreTargetsOf, IsSeenResult}
+use Rattle.router_requests.specs.Request.{Action, Request, put_statement, remove_statement, put_events, test_event_pattern}
 use Rattle.router_core.specs.Tables.{Tables, moment_at}
-use Rattle.router_core.specs.declared.seen.SeenArchive.{SeenArchive}
-use Rattle.router_core.specs.declared.seen.SeenEntry.{SeenEntry}
-use Rattle.router_core.specs.declared.seen.SeenResult.{SeenResult}
-use Rattle.router_core.specs.declared.seen.SeenResult.TheVariants.{Entries, Tested, Nothing}
-use Rattle.router_core.specs.declared.seen.SeenTarget.{SeenTarget}
-use Rattle.router_core.specs.declared.seen.SeenVerdict.{SeenVerdict}
-use Rattle.router_core.specs.declared.seen.SeenVerdict.TheVariants as verdict
-use Rattle.router_core.proofs.OnceLemmas.{targets_once, policy_once, verdict_once, tested_once}
-use Rattle.router_core.proofs.SeenArchiveLemmas.{archives_once}
-use Rattle.router_core.proofs.DutyLemmas.{duties_once}
+use Rattle.router_requests.specs.declared.seen.SeenArchive.{SeenArchive}
+use Rattle.router_requests.specs.declared.seen.SeenEntry.{SeenEntry}
+use Rattle.router_requests.specs.declared.seen.SeenResult.{SeenResult}
+use Rattle.router_requests.specs.declared.seen.SeenResult.TheVariants.{Entries, Tested, Nothing}
+use Rattle.router_requests.specs.declared.seen.SeenTarget.{SeenTarget}
+use Rattle.router_requests.specs.declared.seen.SeenVerdict.{SeenVerdict}
+use Rattle.router_requests.specs.declared.seen.SeenVerdict.TheVariants as verdict
+use Rattle.router_requests.proofs.OnceLemmas.{targets_once, policy_once, verdict_once, tested_once}
+use Rattle.router_requests.proofs.SeenArchiveLemmas.{archives_once}
+use Rattle.router_requests.proofs.DutyLemmas.{duties_once}
 use Rattle.call_replies.specs.Replies.{tested_reply}
 use Rattle.router_calls.specs.Accepted.{Given, Found, Placed, ArePlaced, IsAcceptedAs, IsEventPlaced, IsPlaced}
 use Rattle.router_calls.specs.Accepted.{archives_kept, found_of, number_after, numbered_tree}
-use Rattle.router_calls.specs.Answer.{Answer, Decided, HasPlaced, IsAnswer, answer_at, decided, publication, published, refusal, shown}
+use Rattle.resource_calls.specs.Decision.{Decided, refusal, shown}
+use Rattle.router_calls.specs.Answer.{Answer, HasPlaced, IsAnswer, answer_at, decided, publication, published}
 use Rattle.router_calls.specs.Permission.{IsPolicyThere, IsPolicyNamed}
 
 -- ---- what matching found

@@ -3,8 +3,8 @@ use Rattle.std.proofs.Common.{◌≡◌, ℕ, true, List, Option, Some, is_some,
 use Rattle.json_text.specs.Tree.{Tree}
 use Rattle.name_rows.specs.Rows.{named}
 use Rattle.rule_table.specs.RuleSet.{Bus, RuleSet, has_bus}
-use Rattle.router_core.specs.Verdict.{IsPolicyOf}
-use Rattle.router_calls.specs.Answer.{Decided}
+use Rattle.router_requests.specs.Verdict.{IsPolicyOf}
+use Rattle.resource_calls.specs.Decision.{Decided}
 use Rattle.router_calls.specs.Permission.{IsPolicyThere}
 use Rattle.router_calls.specs.Steps.{IsByPolicy}
 

@@ -10,15 +10,15 @@ use Rattle.rule_table.specs.RuleSet.{Archive, RuleSet, archive_at}
 use Rattle.api_replies.specs.declared.member.Member.TheVariants as member
 use Rattle.api_replies.specs.declared.cause.Cause.{Cause}
 use Rattle.api_replies.specs.declared.cause.Cause.TheVariants as cause
-use Rattle.router_core.specs.Batch as batch
-use Rattle.router_core.specs.Duties.{AreDuties, scene_at}
-use Rattle.router_core.specs.declared.seen.SeenArchive.{SeenArchive}
-use Rattle.router_core.specs.declared.seen.SeenEntry.{SeenEntry}
-use Rattle.router_core.specs.declared.seen.SeenResult.{SeenResult}
-use Rattle.router_core.specs.declared.seen.SeenResult.TheVariants.{Entries, Tested, Nothing}
-use Rattle.router_core.specs.declared.seen.SeenTarget.{SeenTarget}
-use Rattle.router_core.specs.declared.seen.SeenVerdict.{SeenVerdict}
-use Rattle.router_core.specs.declared.seen.SeenVerdict.TheVariants as verdict
+use Rattle.router_requests.specs.Batch as batch
+use Rattle.router_requests.specs.Duties.{AreDuties, scene_at}
+use Rattle.router_requests.specs.declared.seen.SeenArchive.{SeenArchive}
+use Rattle.router_requests.specs.declared.seen.SeenEntry.{SeenEntry}
+use Rattle.router_requests.specs.declared.seen.SeenResult.{SeenResult}
+use Rattle.router_requests.specs.declared.seen.SeenResult.TheVariants.{Entries, Tested, Nothing}
+use Rattle.router_requests.specs.declared.seen.SeenTarget.{SeenTarget}
+use Rattle.router_requests.specs.declared.seen.SeenVerdict.{SeenVerdict}
+use Rattle.router_requests.specs.declared.seen.SeenVerdict.TheVariants as verdict
 use Rattle.call_replies.specs.Causes.{entry_cause}
 
 -- An entry of a PutEvents as its request holds it: an event without its number, or a fault.

@@ -4,13 +4,13 @@ use Rattle.std.specs.List.{Contains}
 use Rattle.event_time.specs.Time.{IsIso}
 use Rattle.event_shape.specs.Unnumbered.{Unnumbered}
 use Rattle.rule_table.specs.RuleSet.{RuleSet}
-use Rattle.router_core.specs.Batch as batch
-use Rattle.router_core.specs.Request.{Action, put_events}
-use Rattle.router_core.specs.Matching.{AreKeepingFor, AreMatchedFor}
-use Rattle.router_core.specs.Verdict.{IsEntryVerdict}
-use Rattle.router_core.specs.declared.seen.SeenArchive.{SeenArchive}
-use Rattle.router_core.specs.declared.seen.SeenTarget.{SeenTarget}
-use Rattle.router_core.specs.declared.seen.SeenVerdict.TheVariants.{Allowed}
+use Rattle.router_requests.specs.Batch as batch
+use Rattle.router_requests.specs.Request.{Action, put_events}
+use Rattle.router_requests.specs.Matching.{AreKeepingFor, AreMatchedFor}
+use Rattle.router_requests.specs.Verdict.{IsEntryVerdict}
+use Rattle.router_requests.specs.declared.seen.SeenArchive.{SeenArchive}
+use Rattle.router_requests.specs.declared.seen.SeenTarget.{SeenTarget}
+use Rattle.router_requests.specs.declared.seen.SeenVerdict.TheVariants.{Allowed}
 use Rattle.router_calls.specs.Accepted.{Given, IsAcceptedAs, archives_kept}
 
 -- The accepted event is one of these entries, its bus exists, and the verdict of the bus's policy on it, for this caller on a rule set, is

@@ -1,8 +1,7 @@
 -- The router machine: what a request changes and what its reply is. Both are a function of the request, the tables, what matching found,
 -- what became of its entries, and the policy that it names.
-use Rattle.std.specs.Prelude.{◌≡◌, ℕ, ◌+◌, ◌≤◌, is_some, not, ◌&&◌, nat_lt, if◌then◌else◌, Bool, false, List, [], ◌∷◌, length, map}
-use Rattle.std.specs.Prelude.{Option, Some, None, Ok, Err, codes, unwrap_or}
-use Rattle.std.specs.Option.{option_or}
+use Rattle.std.specs.Prelude.{◌≡◌, ℕ, ◌+◌, ◌≤◌, is_some, not, ◌&&◌, nat_lt, if◌then◌else◌, Bool, false, List, [], ◌∷◌, map}
+use Rattle.std.specs.Prelude.{Option, Some, None, Ok, Err, codes}
 use Rattle.json_text.specs.Compact.{compact_text}
 use Rattle.json_text.specs.Limits.{most_together}
 use Rattle.api_replies.specs.declared.member.Member.TheVariants as member
@@ -12,78 +11,35 @@ use Rattle.event_shape.specs.Names.{queue_arn, bus_arn, rule_arn}
 use Rattle.event_shape.specs.Id.{event_id}
 use Rattle.rule_targets.specs.declared.target.AskedTarget.{AskedTarget}
 use Rattle.rule_targets.specs.declared.target.Target.{Target}
-use Rattle.rule_table.specs.declared.control.ControlFault.{ControlFault}
-use Rattle.rule_table.specs.Control.{Control, bus_created, bus_deleted, rule_put, rule_deleted, state_put, targets_put}
-use Rattle.rule_table.specs.Control.{targets_removed, policy_put, queue_created, queue_deleted, archive_created, archive_updated, archive_deleted}
-use Rattle.archive_keep.specs.Archive.{Archive}
-use Rattle.archive_keep.specs.Archives.{name_of}
-use Rattle.name_rows.specs.Rows.{named}
-use Rattle.rule_table.specs.RuleSet.{Archive as Row, Rule, RuleSet, archive_at, has_bus, has_queue, rule_at}
-use Rattle.rule_table.specs.Refusal as table
-use Rattle.delivery_queues.specs.declared.stored.StoredMessage.{StoredMessage}
-use Rattle.delivery_queues.specs.Queues.{messages_of, messages_through}
-use Rattle.delivery_duties.specs.Duties.{names_queue}
-use Rattle.replay_run.specs.Replays.{is_sent_to}
+use Rattle.rule_table.specs.Control.{Control, bus_created, rule_put, rule_deleted, state_put, targets_put}
+use Rattle.rule_table.specs.Control.{targets_removed, policy_put, queue_created, archive_created, archive_deleted}
+use Rattle.rule_table.specs.RuleSet.{Rule, RuleSet, has_bus, rule_at}
 use Rattle.api_replies.specs.declared.kind.Kind.TheVariants as kind
-use Rattle.api_replies.specs.declared.cause.Cause.{Cause}
 use Rattle.api_replies.specs.declared.cause.Cause.TheVariants as cause
 use Rattle.api_replies.specs.Cause.{failed_members}
-use Rattle.api_replies.specs.Reply.{Reply, served, refused, no_memory}
-use Rattle.router_core.specs.Request.{Action, Request, create_event_bus, delete_event_bus, describe_event_bus, list_event_buses, put_rule, delete_rule}
-use Rattle.router_core.specs.Request.{put_rule_state, describe_rule, list_rules, put_targets, remove_targets, list_targets_by_rule}
-use Rattle.router_core.specs.Request.{list_rule_names_by_target, put_policy, put_statement, remove_policy, remove_statement, put_events}
-use Rattle.router_core.specs.Request.{test_event_pattern, create_archive, update_archive, delete_archive, describe_archive, list_archives}
-use Rattle.router_core.specs.Request.{create_queue, delete_queue, peek_messages, delete_messages, duty_counts, deliver_due}
-use Rattle.router_core.specs.Request.{IsEntitled, IsOneTurn, IsPublishing}
-use Rattle.router_core.specs.Batch as batch
-use Rattle.router_core.specs.Bounds.{IsBounded}
-use Rattle.router_core.specs.Matching.{IsSeenResult}
+use Rattle.api_replies.specs.Reply.{Reply, served, refused}
+use Rattle.router_requests.specs.Request.{Action, Request, create_event_bus, delete_event_bus, describe_event_bus, list_event_buses, put_rule, delete_rule}
+use Rattle.router_requests.specs.Request.{put_rule_state, describe_rule, list_rules, put_targets, remove_targets, list_targets_by_rule}
+use Rattle.router_requests.specs.Request.{list_rule_names_by_target, put_policy, put_statement, remove_policy, remove_statement, put_events}
+use Rattle.router_requests.specs.Request.{test_event_pattern, create_archive, update_archive, delete_archive, describe_archive, list_archives}
+use Rattle.router_requests.specs.Request.{start_replay, cancel_replay, describe_replay, list_replays, step_replays}
+use Rattle.router_requests.specs.Request.{create_queue, delete_queue, peek_messages, delete_messages, duty_counts, deliver_due}
+use Rattle.router_requests.specs.Request.{IsEntitled, IsOneTurn, IsPublishing}
+use Rattle.router_requests.specs.Batch as batch
+use Rattle.router_requests.specs.Bounds.{IsBounded}
+use Rattle.router_requests.specs.Matching.{IsSeenResult}
 use Rattle.router_core.specs.Tables.{Tables, is_full, moment_at}
-use Rattle.router_core.specs.declared.seen.SeenResult.{SeenResult}
+use Rattle.router_requests.specs.declared.seen.SeenResult.{SeenResult}
 use Rattle.config_views.specs.Views.{described_bus, listed_buses, described_rule, listed_rules, listed_targets, listed_rule_names}
 use Rattle.config_views.specs.Archives.{archive_reply, described_archive, listed_archives}
-use Rattle.call_replies.specs.Causes.{change_cause}
-use Rattle.call_replies.specs.Replies.{empty_reply, items_reply, targets_reply, peeked, deletion_reply, duties_reply, tested_reply}
+use Rattle.config_views.specs.Replays.{described_replay, listed_replays}
+use Rattle.call_replies.specs.Replies.{empty_reply, items_reply, targets_reply, peeked, duties_reply, tested_reply}
+use Rattle.resource_calls.specs.Decision.{Decided, shown, refusal, writes, controlled}
+use Rattle.resource_calls.specs.Decision.{queue_deletion, bus_deletion, messages_deletion, archive_update, replay_start, replay_cancellation}
 use Rattle.router_calls.specs.Accepted.{Placed, ArePlaced, entries_seen, is_tested, events_in, failures_in}
 use Rattle.router_calls.specs.Targets.{accepted_targets, failed_targets}
 use Rattle.router_calls.specs.Removals.{removed_ids, failed_ids}
 use Rattle.router_calls.specs.Permission.{IsPolicyNamed, has_statement, granting, revoking}
-
--- What is decided of a request: the operations that it writes, and its reply.
--- Shown by: tables router_calls.rows: each_request_is_answered.
-pub record Decided : Type 0 where
-  pub entries : List batch.Entry
-  pub reply : Reply
-
--- A reply, and nothing to write.
--- Shown by: tables router_calls.rows: each_request_is_answered.
-abbrev pub shown : Reply → Decided
-shown reply = record { entries = []; reply = reply }
-
--- A refusal for a cause, and nothing to write.
--- Shown by: tables router_calls.rows: each_request_is_answered.
-abbrev pub refusal : Cause → Decided
-refusal c = shown (refused c)
-
--- One operation with its reply.
--- Shown by: tables router_calls.rows: each_request_is_answered.
-abbrev pub writes : batch.Entry → Reply → Decided
-writes entry reply = record { entries = entry ∷ []; reply = reply }
-
--- the reply to a change that is refused for this cause; a change without one is out of memory
-abbrev pub change_reply : Option Cause → Reply
-change_reply (Some c) = refused c
-change_reply None = no_memory
-
--- what is decided of a change: without a fault it is written with this reply, with one it is refused
-abbrev pub unless_refused : Option ControlFault → Control → Reply → Decided
-unless_refused None control reply = writes (batch.control control) reply
-unless_refused (Some fault) control reply = shown (change_reply (change_cause control fault))
-
--- A configuration change is written with its reply if it is allowed, and else refused for its first fault.
--- Shown by: a_refused_change_is_reported_as_done.edit.
-abbrev pub controlled : RuleSet → Control → Reply → Decided
-controlled set control reply = unless_refused (table.refusal control set) control reply
 
 -- What is decided of a call on a bus: a missing bus is refused.
 -- Shown by: tables router_calls.rows: each_change_is_answered.
@@ -166,59 +122,9 @@ published all = record { entries = map batch.accepted (events_in all); reply = e
 abbrev pub publication : List Placed → ℕ → Decided
 publication placed size = if nat_lt most_together size then refusal cause.TooLargeTogether else published placed
 
--- DeleteQueue. An existing queue that a pending delivery or a message names is in use; else it is a change like others. A missing queue is
--- refused as such, whatever names it.
--- Shown by: a_queue_with_messages_is_deleted.edit.
-abbrev pub queue_deletion : Tables → List ℕ → Decided
-queue_deletion t name =
-    if has_queue name t.set && names_queue name t.duties then refusal (cause.InUse kind.Queue name)
-    else controlled t.set (queue_deleted name) empty_reply
-
--- DeleteEventBus: what the rule set refuses is refused as such; else a bus to which a running replay sends its events is in use.
--- Shown by: proofs alone.
-abbrev pub bus_deletion : Tables → List ℕ → Decided
-bus_deletion t name =
-    if not (is_some (table.refusal (bus_deleted name) t.set)) && is_sent_to name t.replays then refusal (cause.InUse kind.EventBus name)
-    else controlled t.set (bus_deleted name) empty_reply
-
--- The deletion of these messages, which have numbers up to `through`, is one operation of a batch; without a message nothing is written.
--- Shown by: empty-a-queue.
-abbrev pub deletion_of : List ℕ → ℕ → List StoredMessage → Decided
-deletion_of queue through [] = shown (deletion_reply 0)
-deletion_of queue through (m ∷ ms) = writes (batch.messages_deleted queue through) (deletion_reply (length (m ∷ ms)))
-
--- DeleteMessages: the queue's messages with numbers up to `Through` are deleted; a missing queue is refused.
--- Shown by: tables router_calls.rows: a_queue_is_deleted_once_nothing_names_it.
-abbrev pub messages_deletion : Tables → List ℕ → ℕ → Decided
-messages_deletion t queue through =
-    if has_queue queue t.set then deletion_of queue through (messages_through through (messages_of queue t.duties.queues))
-    else refusal (cause.NotFound kind.Queue queue)
-
--- the change of an archive to this pattern and these days; those that are not given stay as they are
-abbrev pub update_of : List ℕ → Option (List ℕ) → Option ℕ → Row → Archive → Control
-update_of name pattern days row archive = archive_updated name (option_or pattern row.pattern) (unwrap_or days archive.days)
-
--- what is decided for the archive that is there, or the refusal of an archive of this name
-abbrev pub for_archive : List ℕ → (Row → Archive → Decided) → Option Row → Option Archive → Decided
-for_archive name decided (Some row) (Some archive) = decided row archive
-for_archive name decided _ _ = refusal (cause.NotFound kind.Archive name)
-
--- What is decided of a call on an archive: a missing one is refused. The rule set and the archives of tables have the same names
--- (router_core `IsConsistent`).
--- Shown by: tables router_calls.rows: archives_are_changed.
-abbrev pub on_archive : Tables → List ℕ → (Row → Archive → Decided) → Decided
-on_archive t name decided = for_archive name decided (archive_at name t.set) (named name_of name t.archives)
-
--- UpdateArchive: an archive gets the pattern and the days that are given, also where nothing changes by it. Its reply has the moment of the
--- archive's creation.
--- Shown by: an_update_forgets_the_days.edit; tables router_calls.rows: archives_are_changed.
-abbrev pub archive_update : Tables → List ℕ → Option (List ℕ) → Option ℕ → Decided
-archive_update t name pattern days =
-    on_archive t name (λ row archive. controlled t.set (update_of name pattern days row archive) (archive_reply name archive.created))
-
 -- What is decided of an action at the moment of its turn, from the tables before it. Arguments are what matching found of it, what became of its entries
 -- (`HasPlaced`), and the policy of the bus that it names (`IsPolicyNamed`). Everything but events goes by the tables' own rule set. What is
--- said of a DeliverDue has no use: it is answered by its steps (router_sessions `IsDelivery`).
+-- said of a DeliverDue and of a StepReplays has no use: they are answered by their steps (router_sessions `IsDelivery`, `IsRepetition`).
 -- Shown by: tables router_calls.rows: each_request_is_answered.
 abbrev pub decided : Tables → ℕ → SeenResult → List Placed → Option Tree → Action → Decided
 decided t moment seen placed policy (create_event_bus name) =
@@ -249,6 +155,10 @@ decided t moment seen placed policy (delete_archive name) = controlled t.set (ar
 decided t moment seen placed policy (describe_archive name) = shown (described_archive name moment t.set t.archives)
 decided t moment seen placed policy (list_archives prefix source state) =
     shown (listed_archives prefix source state moment t.set t.archives)
+decided t moment seen placed policy (start_replay s bus) = replay_start t moment s bus
+decided t moment seen placed policy (cancel_replay name) = replay_cancellation t name
+decided t moment seen placed policy (describe_replay name) = shown (described_replay name t.replays)
+decided t moment seen placed policy (list_replays prefix source state) = shown (listed_replays prefix source state t.replays)
 decided t moment seen placed policy (create_queue name) =
     controlled t.set (queue_created name) (served ((codes "QueueArn", text (queue_arn name)) ∷ []))
 decided t moment seen placed policy (delete_queue name) = queue_deletion t name
@@ -256,6 +166,7 @@ decided t moment seen placed policy (peek_messages queue limit) = shown (peeked 
 decided t moment seen placed policy (delete_messages queue through) = messages_deletion t queue through
 decided t moment seen placed policy duty_counts = shown (duties_reply t.duties)
 decided t moment seen placed policy (deliver_due budget) = shown empty_reply
+decided t moment seen placed policy (step_replays budget) = shown empty_reply
 
 -- What a request's turn writes, a batch or none, and its reply.
 -- Shown by: tables router_calls.rows: each_request_is_answered.

@@ -1,4 +1,4 @@
--- Which change of the configuration an action may make.
+-- Which change of the configuration an action may make, and what it may do with a replay.
 use Rattle.std.specs.Prelude.{◌≡◌, ℕ, List, map, Option, Some, None, All}
 use Rattle.json_text.specs.Compact.{compact_text}
 use Rattle.json_text.specs.Tree.{Tree}
@@ -11,11 +11,13 @@ use Rattle.rule_targets.specs.Target.{put_as}
 use Rattle.rule_table.specs.Control.{Control, bus_created, bus_deleted, rule_put, rule_deleted, state_put, targets_put}
 use Rattle.rule_table.specs.Control.{targets_removed, policy_put, queue_created, queue_deleted, archive_created, archive_deleted}
 use Rattle.rule_table.specs.RuleSet.{Archive as Row, archive_at}
-use Rattle.router_core.specs.Request.{Action, create_event_bus, delete_event_bus, put_rule, delete_rule, put_rule_state, put_targets, remove_targets}
-use Rattle.router_core.specs.Request.{put_policy, put_statement, remove_policy, remove_statement, create_archive, update_archive, delete_archive}
-use Rattle.router_core.specs.Request.{create_queue, delete_queue}
+use Rattle.router_requests.specs.Request.{Action, create_event_bus, delete_event_bus, put_rule, delete_rule, put_rule_state, put_targets, remove_targets}
+use Rattle.router_requests.specs.Request.{put_policy, put_statement, remove_policy, remove_statement, create_archive, update_archive, delete_archive}
+use Rattle.router_requests.specs.Request.{create_queue, delete_queue, start_replay, cancel_replay}
+use Rattle.router_requests.specs.declared.batch.StartedReplay.{StartedReplay}
+use Rattle.router_requests.specs.Batch.{Entry, control, accepted, attempt, replay_started, replay_stepped, replay_cancelled, messages_deleted}
 use Rattle.router_core.specs.Tables.{Tables}
-use Rattle.router_calls.specs.Answer.{update_of}
+use Rattle.resource_calls.specs.Decision.{update_of}
 use Rattle.router_calls.specs.Permission.{IsPolicyThere, granting, revoking}
 
 -- The change of the configuration is one that the action makes on these tables. A PutTargets puts some of its targets, and a RemoveTargets
@@ -45,3 +47,26 @@ MayMake t (delete_archive name) c = c ≡ archive_deleted name
 MayMake t (create_queue name) c = c ≡ queue_created name
 MayMake t (delete_queue name) c = c ≡ queue_deleted name
 MayMake t _ c = ⊥
+
+-- The action may start this replay: it asks for it.
+-- Shown by: proofs alone.
+abbrev pub MayStart : Action → StartedReplay → Type 0
+MayStart (start_replay s bus) given = given ≡ s
+MayStart _ given = ⊥
+
+-- The action may cancel the replay of this name: it asks for it.
+-- Shown by: proofs alone.
+abbrev pub MayCancel : Action → List ℕ → Type 0
+MayCancel (cancel_replay name) given = given ≡ name
+MayCancel _ given = ⊥
+
+-- The operation starts or cancels no replay but as the action asks, and makes no step of one. Of other operations it says nothing.
+-- Shown by: proofs alone.
+abbrev pub MayReplay : Action → Entry → Type 0
+MayReplay action (control c) = Unit {0}
+MayReplay action (accepted e) = Unit {0}
+MayReplay action (attempt duty outcome) = Unit {0}
+MayReplay action (replay_started given) = MayStart action given
+MayReplay action (replay_stepped given) = ⊥
+MayReplay action (replay_cancelled given) = MayCancel action given
+MayReplay action (messages_deleted queue through) = Unit {0}

@@ -4,7 +4,7 @@ pub mod Removals
 pub mod Permission
 pub mod Matched
 pub mod Answer
-pub mod Decided
+pub mod View
 pub mod Allowed
 pub mod Changes
 pub mod Steps

@@ -2,10 +2,10 @@
 use Rattle.std.specs.Prelude.{◌≡◌, ◌≤◌}
 use Rattle.rule_table.specs.RuleSet.{RuleSet}
 use Rattle.rule_table.specs.Sound.{IsSound}
-use Rattle.router_core.specs.Request.{Request, IsPublishing}
+use Rattle.router_requests.specs.Request.{Request, IsPublishing}
 use Rattle.router_core.specs.Tables.{Tables}
-use Rattle.router_core.specs.Matching.{IsSeen}
-use Rattle.router_core.specs.declared.seen.Seen.{Seen}
+use Rattle.router_requests.specs.Matching.{IsSeen}
+use Rattle.router_requests.specs.declared.seen.Seen.{Seen}
 
 -- What `decide` asks of the result of matching: it is that of the request on a sound rule set, whose version the tables have had; the
 -- latest one, unless the request publishes events.

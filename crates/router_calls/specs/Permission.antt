@@ -6,8 +6,8 @@ use Rattle.bus_policy.specs.Parts.{statements_of}
 use Rattle.bus_policy.specs.Change.{allow_for, first_policy, with_statement, some_has_sid, without_sid, without_statement}
 use Rattle.name_rows.specs.Rows.{named}
 use Rattle.rule_table.specs.RuleSet.{Bus, RuleSet}
-use Rattle.router_core.specs.Request.{Action, put_statement, remove_statement}
-use Rattle.router_core.specs.Verdict.{IsPolicyOf}
+use Rattle.router_requests.specs.Request.{Action, put_statement, remove_statement}
+use Rattle.router_requests.specs.Verdict.{IsPolicyOf}
 
 -- the policy of a bus, which may be missing: the one that its text is, if it has one
 abbrev pub IsPolicyThere : Option Bus → Option Tree → Type 0

@@ -13,23 +13,24 @@ use Rattle.rule_table.specs.RuleSet.{RuleSet}
 use Rattle.rule_table.specs.Sound.{IsSound}
 use Rattle.rule_table.specs.Refusal.{target_fault}
 use Rattle.api_replies.specs.declared.cause.Cause.{Cause}
-use Rattle.router_core.specs.Batch as batch
-use Rattle.router_core.specs.Request.{Action, put_events, put_statement, remove_statement}
+use Rattle.router_requests.specs.Batch as batch
+use Rattle.router_requests.specs.Request.{Action, put_events, put_statement, remove_statement}
 use Rattle.router_core.specs.Tables.{Tables}
 use Rattle.router_core.specs.Admitted.{AreAdmitted, IsAnEvent}
-use Rattle.router_core.specs.View.{accepted_of, entry_of}
-use Rattle.router_core.specs.Matching.{AreSeenEntries, IsSeenResult}
+use Rattle.router_requests.specs.View.{accepted_of, entry_of}
+use Rattle.router_requests.specs.Matching.{AreSeenEntries, IsSeenResult}
 use Rattle.router_core.specs.Ready.{IsPartOf, ArePartsOf, AreMadeOn}
-use Rattle.router_core.specs.declared.batch.AcceptedEvent.{AcceptedEvent}
-use Rattle.router_core.specs.declared.batch.Entry.TheVariants as entry
+use Rattle.router_requests.specs.declared.batch.AcceptedEvent.{AcceptedEvent}
+use Rattle.router_requests.specs.declared.batch.Entry.TheVariants as entry
 use Rattle.router_core.specs.declared.ready.Part.{Part}
-use Rattle.router_core.specs.declared.seen.Seen.{Seen}
-use Rattle.router_core.specs.declared.seen.SeenEntry.{SeenEntry}
+use Rattle.router_requests.specs.declared.seen.Seen.{Seen}
+use Rattle.router_requests.specs.declared.seen.SeenEntry.{SeenEntry}
 use Rattle.router_calls.specs.Accepted.{Given, Found, Placed, ArePlaced, entries_seen, events_in, failures_in}
 use Rattle.router_calls.specs.Permission.{IsPolicyThere}
 use Rattle.router_calls.specs.Targets.{having, accepted_first, failed_first, accepted_targets, failed_targets}
 use Rattle.call_replies.specs.Replies.{target_report, items_reply}
-use Rattle.router_calls.specs.Answer.{Decided, decided, entry_report, on_bus, publication, statement_put, statement_removed}
+use Rattle.resource_calls.specs.Decision.{Decided}
+use Rattle.router_calls.specs.Answer.{decided, entry_report, on_bus, publication, statement_put, statement_removed}
 use Rattle.router_calls.specs.declared.put_events.PlacedEntries.{PlacedEntries}
 use Rattle.router_calls.specs.declared.put_targets.SplitTargets.{SplitTargets}
 

@@ -3,13 +3,13 @@ ghost use Rattle.std.specs.Prelude.{◌≡◌, IfOk};
 ghost use Rattle.rule_table.specs.Control.{rule_deleted};
 ghost use Rattle.rule_targets.specs.WellFormed.{NamesRule};
 ghost use Rattle.call_replies.specs.Replies.{empty_reply};
-ghost use Rattle.router_calls.specs.Answer.{controlled, lacks_rule, rule_deletion};
-ghost use Rattle.router_calls.specs.Decided.{decided_of, CanBeMade};
+ghost use Rattle.resource_calls.specs.Decision.{controlled};
+ghost use Rattle.router_calls.specs.Answer.{lacks_rule, rule_deletion};
+ghost use Rattle.resource_calls.specs.Decided.{decided_of, CanBeMade};
 
-use crate::configure::configure;
-use crate::decided::{Decided, shown};
 use call_replies::empty_reply;
 use json_text::{NoMemory, Text};
+use resource_calls::{Decided, configure, shown};
 use router_core::Tables;
 use rule_table::{Control, RuleSet};
 use std::alloc::Global;

@@ -11,18 +11,24 @@ ghost use Rattle.rule_targets.specs.declared.given.GivenInput.{GivenInput};
 ghost use Rattle.rule_table.specs.Control.{Control};
 ghost use Rattle.rule_table.specs.RuleSet.{RuleSet};
 ghost use Rattle.delivery_duties.specs.declared.duty.NewDuty.{NewDuty};
-ghost use Rattle.router_core.specs.Batch.{Accepted, Batch, accepted, control};
-ghost use Rattle.router_core.specs.Duties.{IsTargetText};
-ghost use Rattle.router_core.specs.Request.{Request};
+ghost use Rattle.router_requests.specs.Batch.{Accepted, Batch, Entry, accepted, control};
+ghost use Rattle.router_requests.specs.Duties.{IsTargetText};
+ghost use Rattle.router_core.specs.Replaying.{IsReplayStep};
+ghost use Rattle.router_requests.specs.Request.{Request};
 ghost use Rattle.router_core.specs.Tables.{Tables};
 ghost use Rattle.router_calls.specs.Accepted.{HasScenes};
 ghost use Rattle.router_calls.specs.Answer.{Answer, IsAnswer};
 ghost use Rattle.router_calls.specs.Allowed.{IsPublishedBy, entries_in};
-ghost use Rattle.router_calls.specs.Changes.{MayMake};
+ghost use Rattle.router_calls.specs.Changes.{MayMake, MayReplay};
 
 /// A request has at most one answer on each configuration version.
 pub fn one_answer()
     ensures { (t : Tables) (r : Request) (k : ℕ) (set : RuleSet) (a b : Answer) → IsAnswer t r k set a → IsAnswer t r k set b → a ≡ b }
+{}
+
+/// There is at most one next step of the replays at a moment, and it is one batch.
+pub fn one_step()
+    ensures { (t : Tables) (moment : ℕ) (a b : Batch) → IsReplayStep t moment a → IsReplayStep t moment b → a ≡ b }
 {}
 
 /// What an accepted event owes a target is one JSON text of at most 200 levels, whatever the event, the rule and the target's input are.
@@ -42,8 +48,11 @@ pub fn a_stranger_only_publishes()
         → IsPublishedBy t.set set r.caller (entries_in r.action) a.batch }
 {}
 
-/// A request writes no change of the configuration but the one that it asks for.
+/// A request writes no change of the configuration but the one that it asks for. It starts and cancels no replay but the one that it asks for, and
+/// steps none.
 pub fn only_its_request()
-    ensures { (t : Tables) (r : Request) (k : ℕ) (set : RuleSet) (a : Answer) (b : Batch) (c : Control) → IsAnswer t r k set a → a.batch ≡ Some b
+    ensures changes { (t : Tables) (r : Request) (k : ℕ) (set : RuleSet) (a : Answer) (b : Batch) (c : Control) → IsAnswer t r k set a → a.batch ≡ Some b
         → Contains b.entries (control c) → MayMake t r.action c }
+    ensures replays { (t : Tables) (r : Request) (k : ℕ) (set : RuleSet) (a : Answer) (b : Batch) (e : Entry) → IsAnswer t r k set a → a.batch ≡ Some b
+        → Contains b.entries e → MayReplay r.action e }
 {}

@@ -1,15 +1,7 @@
 //! The router machine: decides what each request changes and what its reply is.
 #![tactic(auto)]
 
-mod configure;
-mod create_archive;
-mod create_event_bus;
-mod create_queue;
 mod decided;
-mod delete_archive;
-mod delete_event_bus;
-mod delete_messages;
-mod delete_queue;
 mod delete_rule;
 mod laws;
 mod on_rule;
@@ -23,9 +15,8 @@ mod remove_permission;
 mod remove_targets;
 mod requests;
 mod test_event_pattern;
-mod update_archive;
 
 pub use laws::{
-    a_stranger_only_publishes, a_target_gets_one_json_text, one_answer, only_its_request,
+    a_stranger_only_publishes, a_target_gets_one_json_text, one_answer, one_step, only_its_request,
 };
 pub use requests::decide;

@@ -5,25 +5,25 @@ ghost use Rattle.json_text.specs.View.{tree_of};
 ghost use Rattle.event_time.specs.Time.{IsIso};
 ghost use Rattle.archive_keep.specs.Kept.{IsTextOfEvent};
 ghost use Rattle.rule_table.specs.RuleSet.{RuleSet as Set};
-ghost use Rattle.router_core.specs.Request.{put_events};
-ghost use Rattle.router_core.specs.View.{accepted_of};
-ghost use Rattle.router_core.specs.Matching.{AreSeenEntries, IsSeenEntry};
-ghost use Rattle.router_core.specs.Duties.{AreDuties};
-ghost use Rattle.router_core.specs.Bounds.{IsBounded};
+ghost use Rattle.router_requests.specs.Request.{put_events};
+ghost use Rattle.router_requests.specs.View.{accepted_of};
+ghost use Rattle.router_requests.specs.Matching.{AreSeenEntries, IsSeenEntry};
+ghost use Rattle.router_requests.specs.Duties.{AreDuties};
+ghost use Rattle.router_requests.specs.Bounds.{IsBounded};
 ghost use Rattle.router_calls.specs.Accepted.{archives_kept, entries_seen, found_of, is_still_there, numbered_text, numbered_tree, IsAcceptedAs, IsPlaced};
 ghost use Rattle.router_calls.specs.Answer.{entry_report};
-ghost use Rattle.router_calls.specs.Decided.{decided_of, CanBeMade};
+ghost use Rattle.resource_calls.specs.Decided.{decided_of, CanBeMade};
 ghost use Rattle.router_calls.specs.Steps.{placed_of, placed_decided, Places, AreReady, AreSeenOn, HasAccount, IsEventAdded, IsPublication, IsRefusalAdded, IsSeenOn};
 
-use crate::decided::{Decided, refused};
-use crate::requests::read_tables;
 use call_replies::{entry_cause, items_reply};
 use delivery_duties::NewDuty;
 use event_shape::{EntryFault, Unnumbered, event_id};
 use json_text::{Items, Json, Members, NoMemory, Text, push_member};
-use router_core::{
-    AcceptedEvent, Cause, Entry, Member, Part, Seen, SeenArchive, SeenArchives, SeenEntries,
-    SeenEntry, SeenResult, SeenTargets, SeenVerdict, Tables, duties_of, need_tree, push_failure,
+use resource_calls::{Decided, read_tables, refused};
+use router_core::{Cause, Member, Part, Tables, push_failure};
+use router_requests::{
+    AcceptedEvent, Entry, Seen, SeenArchive, SeenArchives, SeenEntries, SeenEntry, SeenResult,
+    SeenTargets, SeenVerdict, duties_of, need_tree,
 };
 use rule_table::RuleSet;
 use shared_text::SharedText;

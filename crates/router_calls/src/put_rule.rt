@@ -6,15 +6,14 @@ ghost use Rattle.rule_table.specs.Control.{rule_put};
 ghost use Rattle.api_replies.specs.Reply as replies;
 ghost use Rattle.rule_table.specs.View.{control_of};
 ghost use Rattle.rule_table.specs.WellFormed.{IsWellFormed};
-ghost use Rattle.router_calls.specs.Answer.{controlled};
-ghost use Rattle.router_calls.specs.Decided.{decided_of, CanBeMade};
+ghost use Rattle.resource_calls.specs.Decision.{controlled};
+ghost use Rattle.resource_calls.specs.Decided.{decided_of, CanBeMade};
 
-use crate::configure::configure;
-use crate::decided::Decided;
 use call_replies::text_reply;
 use event_shape::rule_arn;
 use json_text::{NoMemory, Text};
 use pattern_read::SharedPattern;
+use resource_calls::{Decided, configure};
 use router_core::Tables;
 use rule_table::Control;
 use std::alloc::Global;

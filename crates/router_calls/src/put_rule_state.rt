@@ -3,13 +3,12 @@ ghost use Rattle.std.specs.Prelude.{◌≡◌, IfOk};
 ghost use Rattle.rule_table.specs.Control.{state_put};
 ghost use Rattle.rule_targets.specs.WellFormed.{NamesRule};
 ghost use Rattle.call_replies.specs.Replies.{empty_reply};
-ghost use Rattle.router_calls.specs.Answer.{controlled};
-ghost use Rattle.router_calls.specs.Decided.{decided_of, CanBeMade};
+ghost use Rattle.resource_calls.specs.Decision.{controlled};
+ghost use Rattle.resource_calls.specs.Decided.{decided_of, CanBeMade};
 
-use crate::configure::configure;
-use crate::decided::Decided;
 use call_replies::empty_reply;
 use json_text::{NoMemory, Text};
+use resource_calls::{Decided, configure};
 use router_core::Tables;
 use rule_table::Control;
 use std::alloc::Global;

@@ -7,13 +7,13 @@ ghost use Rattle.rule_table.specs.RuleSet.{rule_at};
 ghost use Rattle.rule_table.specs.Target.{target_of};
 ghost use Rattle.rule_table.specs.View.{control_of};
 ghost use Rattle.router_calls.specs.Answer.{on_rule, targets_decided};
-ghost use Rattle.router_calls.specs.Decided.{decided_of, CanBeMade};
+ghost use Rattle.resource_calls.specs.Decided.{decided_of, CanBeMade};
 ghost use Rattle.router_calls.specs.Steps.{AddsTargets, AreAllSplit, IsOneSplit};
 
-use crate::decided::Decided;
 use crate::on_rule::{are_some, change_with_reports, no_rule};
 use call_replies::{target_cause, target_json};
 use json_text::{Items, NoMemory, Text};
+use resource_calls::Decided;
 use router_core::Tables;
 use rule_table::{Control, Rule, RuleSet, RuleTarget, put_target};
 use rule_targets::{AskedTarget, Target};

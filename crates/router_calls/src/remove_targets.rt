@@ -12,13 +12,13 @@ ghost use Rattle.api_replies.specs.declared.cause.Cause.TheVariants as cause_is;
 ghost use Rattle.router_calls.specs.Removals.{failed_ids, has_target, removed_ids, without_target};
 ghost use Rattle.call_replies.specs.Replies.{target_report};
 ghost use Rattle.router_calls.specs.Answer.{on_rule, removals_decided};
-ghost use Rattle.router_calls.specs.Decided.{decided_of, CanBeMade};
+ghost use Rattle.resource_calls.specs.Decided.{decided_of, CanBeMade};
 
-use crate::decided::Decided;
 use crate::on_rule::{are_some, change_with_reports, no_rule};
 use crate::put_targets::copies;
 use call_replies::target_json;
 use json_text::{Items, Json, NoMemory, Text};
+use resource_calls::Decided;
 use router_core::{Cause, Kind, Tables};
 use rule_table::{Control, Rule, RuleTarget};
 use rule_targets::Target;

@@ -3,25 +3,18 @@ ghost use Rattle.std.specs.Prelude.{◌≡◌, ℕ, List, IfOk, IfSome};
 ghost use Rattle.std.specs.Option.{option_copied};
 ghost use Rattle.json_text.specs.Moment.{IsMoment};
 ghost use Rattle.rule_table.specs.RuleSet.{RuleSet};
-ghost use Rattle.rule_table.specs.Sound.{IsSound};
-ghost use Rattle.router_core.specs.Request.{IsOneTurn, IsEntitled};
-ghost use Rattle.router_core.specs.View.{action_of, request_of};
-ghost use Rattle.router_core.specs.Tables.{IsConsistent, moment_at};
+ghost use Rattle.router_requests.specs.Request.{IsOneTurn, IsEntitled};
+ghost use Rattle.router_requests.specs.View.{action_of, request_of};
+ghost use Rattle.router_core.specs.Tables.{moment_at};
 ghost use Rattle.router_core.specs.Ready.{IsReadyFor};
-ghost use Rattle.router_core.specs.Bounds.{IsBounded};
+ghost use Rattle.router_requests.specs.Bounds.{IsBounded};
 ghost use Rattle.router_calls.specs.Answer.{IsAnswer};
-ghost use Rattle.router_calls.specs.Decided.{answer_of, decided_of, CanBeMade};
+ghost use Rattle.resource_calls.specs.Decided.{decided_of, CanBeMade};
+ghost use Rattle.router_calls.specs.View.{answer_of};
 ghost use Rattle.router_calls.specs.Matched.{IsMatchedOn};
 ghost use Rattle.router_calls.specs.Steps.{HaveAccounts, IsDecidedAs, IsSeenOn};
 
-use crate::create_archive::create_archive;
-use crate::create_event_bus::create_event_bus;
-use crate::create_queue::create_queue;
-use crate::decided::{Decided, batched, shown};
-use crate::delete_archive::delete_archive;
-use crate::delete_event_bus::delete_event_bus;
-use crate::delete_messages::delete_messages;
-use crate::delete_queue::delete_queue;
+use crate::decided::batched;
 use crate::delete_rule::delete_rule;
 use crate::put_events::put_events;
 use crate::put_permission::{put_policy, put_statement};
@@ -31,19 +24,24 @@ use crate::put_targets::put_targets;
 use crate::remove_permission::{remove_policy, remove_statement};
 use crate::remove_targets::remove_targets;
 use crate::test_event_pattern::test_event_pattern;
-use crate::update_archive::update_archive;
 use call_replies::{duty_counts, peek_messages};
 use config_views::{
-    describe_archive, describe_event_bus, describe_rule, list_archives, list_event_buses,
-    list_rule_names_by_target, list_rules, list_targets_by_rule,
+    describe_archive, describe_event_bus, describe_replay, describe_rule, list_archives,
+    list_event_buses, list_replays, list_rule_names_by_target, list_rules, list_targets_by_rule,
 };
 use json_text::{NoMemory, Text};
-use router_core::{Action, Ready, Reply, Request, Seen, Tables};
+use resource_calls::{
+    Decided, cancel_replay, create_archive, create_event_bus, create_queue, delete_archive,
+    delete_event_bus, delete_messages, delete_queue, read_tables, shown, start_replay,
+    update_archive,
+};
+use router_core::{Ready, Reply, Tables};
+use router_requests::{Action, Request, Seen};
 use std::alloc::Global;
 
 /// Decides a request at the moment of its turn (seconds since 1970-01-01T00:00:00Z): the batch that it writes, if any, and its reply.
-/// The tables are only read. What matching found of the request moves into the batch. DeliverDue is not decided here: each of its
-/// steps is a turn of its own.
+/// The tables are only read. What matching found of the request moves into the batch. DeliverDue and StepReplays are not decided here:
+/// each of their steps is a turn of its own.
 pub fn decide(
     alloc: Global,
     tables: &Tables,
@@ -149,6 +147,26 @@ fn answer(
                 moment,
             )?,
         )),
+        Action::StartReplay { start, bus } => start_replay(alloc, tables, moment, start, bus),
+        Action::CancelReplay { name } => cancel_replay(alloc, tables, moment, name),
+        Action::DescribeReplay { name } => Ok(shown(
+            alloc,
+            describe_replay(alloc, tables.replays(), name.as_str())?,
+        )),
+        Action::ListReplays {
+            prefix,
+            source,
+            state,
+        } => Ok(shown(
+            alloc,
+            list_replays(
+                alloc,
+                tables.replays(),
+                text_in(prefix),
+                text_in(source),
+                text_in(state),
+            )?,
+        )),
         Action::CreateQueue { name } => create_queue(alloc, tables, moment, name),
         Action::DeleteQueue { name } => delete_queue(alloc, tables, moment, name),
         Action::PeekMessages { queue, limit } => Ok(shown(
@@ -160,7 +178,7 @@ fn answer(
         }
         Action::DutyCounts => Ok(shown(alloc, duty_counts(alloc, tables.duties())?)),
         Action::TestEventPattern { .. } => test_event_pattern(alloc, &seen.result),
-        Action::DeliverDue { .. } => unreachable!(),
+        Action::DeliverDue { .. } | Action::StepReplays { .. } => unreachable!(),
         Action::DescribeEventBus { name } => {
             Ok(shown(
                 alloc,
@@ -199,14 +217,4 @@ fn text_in(text: &Option<Text>) -> Option<&str>
         Some(text) => Some(text.as_str()),
         None => None,
     }
-}
-
-/// Reads the tables for their contracts alone: what holds of every `Tables` and `RuleSet` (their invariants) is known in a
-/// proof only after a call that promises it.
-pub(crate) fn read_tables(tables: &Tables)
-    ensures sound { IsSound tables.now.set }
-    ensures consistent { IsConsistent tables.now }
-{
-    let _count = tables.set().control_count();
-    let _full = tables.full();
 }

@@ -2,18 +2,18 @@
 ghost use Rattle.std.specs.Prelude.{◌≡◌, ℕ, List, IfOk};
 ghost use Rattle.json_text.specs.Tree.{Tree};
 ghost use Rattle.rule_table.specs.RuleSet.{RuleSet};
-ghost use Rattle.router_core.specs.Matching.{IsSeenResult};
-ghost use Rattle.router_core.specs.Request.{test_event_pattern as test_pattern};
+ghost use Rattle.router_requests.specs.Matching.{IsSeenResult};
+ghost use Rattle.router_requests.specs.Request.{test_event_pattern as test_pattern};
 ghost use Rattle.router_core.specs.Tables.{Tables as TablesView};
 ghost use Rattle.call_replies.specs.Replies.{tested_reply};
 ghost use Rattle.router_calls.specs.Accepted.{is_tested};
-ghost use Rattle.router_calls.specs.Answer.{shown};
-ghost use Rattle.router_calls.specs.Decided.{decided_of, CanBeMade};
+ghost use Rattle.resource_calls.specs.Decision.{shown};
+ghost use Rattle.resource_calls.specs.Decided.{decided_of, CanBeMade};
 
-use crate::decided::{Decided, shown};
 use call_replies::tested_reply;
 use json_text::NoMemory;
-use router_core::SeenResult;
+use resource_calls::{Decided, shown};
+use router_requests::SeenResult;
 use std::alloc::Global;
 
 /// Shows whether the pattern matches, as matching found.

@@ -9,11 +9,11 @@ use Rattle.std.proofs.lemmas.List.Elements.{All-head, All-tail}
 use Rattle.archive_keep.specs.Archive.{Archive}
 use Rattle.archive_keep.specs.Archives.{all_purged, name_of}
 use Rattle.rule_table.specs.RuleSet.{RuleSet}
-use Rattle.router_core.specs.Batch.{Batch, Entry, control, accepted, attempt, replay_started, replay_stepped, replay_cancelled, messages_deleted}
+use Rattle.router_requests.specs.Batch.{Batch, Entry, control, accepted, attempt, replay_started, replay_stepped, replay_cancelled, messages_deleted}
 use Rattle.router_core.specs.Tables.{Tables, after_entry, after_entries, after_batch, number_limit, KeepsUpTo, IsConsistent}
 use Rattle.router_core.specs.Admitted.{IsNoChange, IsEntryAdmitted, AreOfOneTurn, AreAdmitted, IsAdmitted}
-use Rattle.router_core.specs.View.{batch_of, entry_of}
-use Rattle.router_core.specs.declared.batch.Entry.{Entry as CodeEntry}
+use Rattle.router_requests.specs.View.{batch_of, entry_of}
+use Rattle.router_requests.specs.declared.batch.Entry.{Entry as CodeEntry}
 use Rattle.router_core.specs.declared.ready.Ready.{Ready}
 use Rattle.router_core.specs.Ready.{IsPartOf, ArePartsOf, AreMadeOn, IsMadeOn, IsNoStart, IsPrepared, IsReadyFor, set_after}
 use Rattle.router_core.specs.declared.ready.Part.{Part}

@@ -1,9 +1,6 @@
--- What holds of all rules of a sound set is shown of the whole list afterwards, by one induction along the definition (`few_all`), and not
--- in the loop.
 -- Entries applied one after the other, each with its part: the invariant is one record (`IsLeft`), and the entries that are left are a
 -- parameter of it.
 -- Each step is one lemma (`left_next`); the step's own lemma goes by cases on the entry.
--- Two matches whose values are joined (`verdict`, then `targets`): a function for each, with its own clause.
 -- CrossingLemmas: a lemma `IsSend X.the_row` for each type; the parts' lemmas are `TheSendSync` of a type's module, and `TheLaws.TheKnot`
 -- of one that
 -- contains itself. A tree of key_tree needs `tree.crosses` and `IsSend (node.the_row u64)`; a `LinkedList` its own `TheSendSync`; a
@@ -19,9 +16,5 @@ mod ClaimLemmas
 mod SettleLemmas
 mod RepeatedLemmas
 mod ReplayingLemmas
-pub mod MatchingLemmas
-pub mod DutyLemmas
-pub mod OnceLemmas
-pub mod SeenArchiveLemmas
 pub mod CrossingLemmas
 pub mod MovingLemmas

@@ -33,11 +33,11 @@ use Rattle.shared_text.proofs.row.SharedRow.TheSendSync as shared_row
 use Rattle.shared_text.proofs.text.SharedText.TheSendSync as shared_text
 use Rattle.rule_targets.proofs.target.Target.TheSendSync as target
 use Rattle.rule_table.specs.contracts.control.Control as control
-use Rattle.router_core.proofs.batch.AcceptedEvent.TheSendSync as accepted
-use Rattle.router_core.specs.contracts.batch.StartedReplay as started
-use Rattle.router_core.proofs.batch.SteppedReplay.TheSendSync as stepped
-use Rattle.router_core.specs.contracts.batch.Entry as entry
-use Rattle.router_core.specs.contracts.batch.Batch as batch
+use Rattle.router_requests.proofs.batch.AcceptedEvent.TheSendSync as accepted
+use Rattle.router_requests.specs.contracts.batch.StartedReplay as started
+use Rattle.router_requests.proofs.batch.SteppedReplay.TheSendSync as stepped
+use Rattle.router_requests.specs.contracts.batch.Entry as entry
+use Rattle.router_requests.specs.contracts.batch.Batch as batch
 use Rattle.router_core.specs.contracts.errand.Errand as errand
 use Rattle.router_core.specs.contracts.tables.Tables as tables
 use Rattle.router_core.proofs.CrossingLemmas.{set_send, shared_pattern_send, stored_policy_send}

@@ -23,8 +23,8 @@ use Rattle.replay_run.specs.Replays.{cancelled_at, cancelled_in, changed_at, cha
 use Rattle.replay_run.specs.Replays as replays
 use Rattle.replay_run.proofs.ReplayLemmas.{advanced_sound, cancelled_sound, completed_in, running_left}
 use Rattle.replay_run.proofs.ReplaysLemmas.{cancelled_kept, first_kept, runs_state, stepped_kept}
-use Rattle.router_core.specs.declared.batch.StartedReplay.{StartedReplay}
-use Rattle.router_core.specs.Batch.{Batch, Entry, Stepped, control, accepted, attempt, replay_started, replay_stepped, replay_cancelled, messages_deleted}
+use Rattle.router_requests.specs.declared.batch.StartedReplay.{StartedReplay}
+use Rattle.router_requests.specs.Batch.{Batch, Entry, Stepped, control, accepted, attempt, replay_started, replay_stepped, replay_cancelled, messages_deleted}
 use Rattle.router_core.specs.Tables.{Tables, after_entry, after_entries, after_batch, first_tables, replays_started, settings_of, tables_after, with_start}
 use Rattle.router_core.specs.Admitted.{AreAdmitted, AreBatchesAdmitted, IsAdmitted, IsEntryAdmitted, IsStartAdmitted}
 use Rattle.router_core.specs.Replaying.{IsCompleted, IsStartIn, repeated_by, repeated_in}

@@ -21,25 +21,25 @@ use Rattle.replay_run.specs.Replay.{replay_state}
 use Rattle.replay_run.proofs.ReplaysLemmas.{runs_state}
 use Rattle.replay_run.specs.Replays.{found, is_running, running, running_named}
 use Rattle.replay_run.specs.Replays as replay_list
-use Rattle.router_core.specs.declared.seen.SeenTarget.{SeenTarget}
-use Rattle.router_core.specs.declared.batch.Batch.{Batch as CodeBatch}
-use Rattle.router_core.specs.declared.batch.Entry.{Entry as CodeEntry}
-use Rattle.router_core.specs.declared.batch.Entry.TheVariants.{ReplayStepped}
-use Rattle.router_core.specs.declared.batch.SteppedReplay.{SteppedReplay}
+use Rattle.router_requests.specs.declared.seen.SeenTarget.{SeenTarget}
+use Rattle.router_requests.specs.declared.batch.Batch.{Batch as CodeBatch}
+use Rattle.router_requests.specs.declared.batch.Entry.{Entry as CodeEntry}
+use Rattle.router_requests.specs.declared.batch.Entry.TheVariants.{ReplayStepped}
+use Rattle.router_requests.specs.declared.batch.SteppedReplay.{SteppedReplay}
 use Rattle.router_core.specs.declared.ready.Part.{Part}
 use Rattle.router_core.specs.declared.ready.Ready.{Ready}
-use Rattle.router_core.specs.Batch.{Batch, Stepped, replay_stepped}
+use Rattle.router_requests.specs.Batch.{Batch, Stepped, replay_stepped}
 use Rattle.router_core.specs.Tables.{Tables, is_full}
-use Rattle.router_core.specs.View.{batch_of, entry_of, stepped_of}
-use Rattle.router_core.specs.Matching.{AreMatched, IsSeenEvent, Matches, seen_target}
-use Rattle.router_core.specs.Duties.{AreDuties}
+use Rattle.router_requests.specs.View.{batch_of, entry_of, stepped_of}
+use Rattle.router_requests.specs.Matching.{AreMatched, IsSeenEvent, Matches, seen_target}
+use Rattle.router_requests.specs.Duties.{AreDuties}
 use Rattle.router_core.specs.Admitted.{IsAdmitted, IsStepAdmitted}
 use Rattle.router_core.specs.Ready.{ArePartsOf, IsNoStart, IsPartOf, IsReadyFor}
 use Rattle.router_core.specs.Replaying.{IsNextOf, IsNextReplayed, IsOneStep, IsReplayStep, passes, rules_for}
 use Rattle.router_core.proofs.StartLemmas.{made_on}
 use Rattle.router_core.proofs.TimeLemmas.{iso_of}
-use Rattle.router_core.proofs.MatchingLemmas.{few_matched}
-use Rattle.router_core.proofs.DutyLemmas.{duties_count, duties_short}
+use Rattle.router_requests.proofs.MatchingLemmas.{few_matched}
+use Rattle.router_requests.proofs.DutyLemmas.{duties_count, duties_short}
 
 -- the first replay that runs, by its name
 runs_first : (all : List ReplayRow) (row : ReplayRow) (others : List ReplayRow) → running all ≡ row ∷ others → is_running row ≡ true

@@ -21,11 +21,11 @@ use Rattle.router_core.specs.Tables.{Tables, after_batch, number_limit, KeepsUpT
 use Rattle.router_core.proofs.KeepingLemmas.{all_purged_up, names_purged}
 use Rattle.router_core.proofs.BatchLemmas.{below_limit}
 use Rattle.router_core.specs.Admitted.{IsAdmitted}
-use Rattle.router_core.specs.Batch as batch
-use Rattle.router_core.specs.View.{entry_of}
+use Rattle.router_requests.specs.Batch as batch
+use Rattle.router_requests.specs.View.{entry_of}
 use Rattle.router_core.specs.Steps.{fate_after, record_of}
-use Rattle.router_core.specs.declared.batch.Entry.{Entry as CodeEntry}
-use Rattle.router_core.specs.declared.batch.Entry.TheVariants as code_entry
+use Rattle.router_requests.specs.declared.batch.Entry.{Entry as CodeEntry}
+use Rattle.router_requests.specs.declared.batch.Entry.TheVariants as code_entry
 
 -- a row that was put among others that lack its key is taken out
 gone : (key : ℕ) (row : DutyRow) (rows : List (ℕ × DutyRow)) → AllKeys (λ k. k ≢ key) rows → without key (placed (key, row) rows) ≡ rows

@@ -27,7 +27,7 @@ use Rattle.rule_table.proofs.AllowedLemmas.{queue_new, archive_new}
 use Rattle.delivery_duties.specs.declared.duty.NewDuty.{NewDuty}
 use Rattle.delivery_queues.specs.Queues.{Queue, with_queue, without_queue as less_queue}
 use Rattle.delivery_duties.specs.Duties.{Duties, added, with_deleted}
-use Rattle.router_core.specs.Batch.{Accepted, Stepped, Entry, control, accepted, attempt, replay_started, replay_stepped, replay_cancelled, messages_deleted}
+use Rattle.router_requests.specs.Batch.{Accepted, Stepped, Entry, control, accepted, attempt, replay_started, replay_stepped, replay_cancelled, messages_deleted}
 use Rattle.router_core.specs.Tables.{Tables, duties_after, archives_after, kept_event, kept_by, after_entry, number_limit, replays_started, settings_of, with_start, KeepsUpTo, IsConsistent}
 use Rattle.router_core.specs.Admitted.{IsEventAdmitted, IsEntryAdmitted, IsStartAdmitted}
 use Rattle.router_core.specs.Keeping.{CanKeep}
@@ -40,7 +40,7 @@ use Rattle.replay_run.specs.declared.settings.ReplaySettings.{ReplaySettings}
 use Rattle.replay_run.specs.Replays.{cancelled_at, cancelled_in, changed_named, first_row, found, is_running, most_running, names_of, next_number, running, stepped_at, stepped_in}
 use Rattle.replay_run.specs.Replays as replay_list
 use Rattle.replay_run.proofs.ReplaysLemmas.{first_kept}
-use Rattle.router_core.specs.declared.batch.StartedReplay.{StartedReplay}
+use Rattle.router_requests.specs.declared.batch.StartedReplay.{StartedReplay}
 use Rattle.router_core.specs.declared.ready.Part.TheVariants.{Configuration, Event, Start, Step, Cancellation, Nothing}
 
 -- the names of the queues after one is created

@@ -19,8 +19,8 @@ use Rattle.delivery_queues.specs.Queues.{has_queue, messages_of, messages_throug
 use Rattle.delivery_duties.specs.Duties.{names_queue, pending_row}
 use Rattle.replay_run.specs.declared.row.ReplayRow.{ReplayRow}
 use Rattle.replay_run.specs.Replays.{found, is_sent_to, most_running, running, running_named}
-use Rattle.router_core.specs.declared.batch.StartedReplay.{StartedReplay}
-use Rattle.router_core.specs.Batch.{Accepted as AcceptedEvent, Stepped, Entry, control, accepted, attempt, replay_started, replay_stepped, replay_cancelled, messages_deleted, Batch}
+use Rattle.router_requests.specs.declared.batch.StartedReplay.{StartedReplay}
+use Rattle.router_requests.specs.Batch.{Accepted as AcceptedEvent, Stepped, Entry, control, accepted, attempt, replay_started, replay_stepped, replay_cancelled, messages_deleted, Batch}
 use Rattle.router_core.specs.Tables.{Tables, after_entry, after_batch, is_full}
 
 -- The bytes are the text of an event that has a number, from 1 on, and the account of a caller, which has 12 digits. The number and the

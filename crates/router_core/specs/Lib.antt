@@ -1,12 +1,5 @@
-pub mod Request
-pub mod Bounds
-pub mod Batch
-pub mod View
 pub mod Tables
 pub mod Admitted
-pub mod Verdict
-pub mod Matching
-pub mod Duties
 pub mod Parts
 pub mod Keeping
 pub mod Ready

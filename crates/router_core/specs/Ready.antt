@@ -9,11 +9,11 @@ use Rattle.rule_table.specs.RuleSet.{RuleSet, applied, archive_at}
 use Rattle.rule_table.specs.RuleSet.{Archive as Row}
 use Rattle.replay_run.specs.declared.replays.NewReplay.{NewReplay}
 use Rattle.replay_run.specs.Replays.{first_row, names_of, next_number}
-use Rattle.router_core.specs.declared.batch.StartedReplay.{StartedReplay}
-use Rattle.router_core.specs.Batch.{Accepted, Entry, control, accepted, attempt, replay_started, replay_stepped, replay_cancelled, messages_deleted}
+use Rattle.router_requests.specs.declared.batch.StartedReplay.{StartedReplay}
+use Rattle.router_requests.specs.Batch.{Accepted, Entry, control, accepted, attempt, replay_started, replay_stepped, replay_cancelled, messages_deleted}
 use Rattle.router_core.specs.Tables.{Tables, after_entry, kept_event, settings_of}
 use Rattle.router_core.specs.Admitted.{IsAdmitted}
-use Rattle.router_core.specs.View.{batch_of}
+use Rattle.router_requests.specs.View.{batch_of}
 use Rattle.router_core.specs.declared.ready.Part.{Part}
 use Rattle.router_core.specs.declared.ready.Part.TheVariants.{Configuration, Event, Start, Step, Cancellation, Nothing}
 use Rattle.router_core.specs.declared.ready.Ready.{Ready}

@@ -18,15 +18,15 @@ use Rattle.replay_run.specs.Replays.{found, running}
 use Rattle.replay_run.specs.Replays as replays
 use Rattle.rule_table.specs.RuleSet.{Rule, RuleSet, rules_of}
 use Rattle.delivery_duties.specs.declared.duty.NewDuty.{NewDuty}
-use Rattle.router_core.specs.declared.batch.StartedReplay.{StartedReplay}
-use Rattle.router_core.specs.declared.seen.SeenTarget.{SeenTarget}
+use Rattle.router_requests.specs.declared.batch.StartedReplay.{StartedReplay}
+use Rattle.router_requests.specs.declared.seen.SeenTarget.{SeenTarget}
 use Rattle.router_core.specs.declared.ready.Ready.{Ready}
-use Rattle.router_core.specs.Batch.{Entry, Stepped, replay_started, replay_stepped, Batch}
-use Rattle.router_core.specs.View.{batch_of}
+use Rattle.router_requests.specs.Batch.{Entry, Stepped, replay_started, replay_stepped, Batch}
+use Rattle.router_requests.specs.View.{batch_of}
 use Rattle.router_core.specs.Ready.{ArePartsOf}
 use Rattle.router_core.specs.Tables.{Tables, first_tables, tables_after}
-use Rattle.router_core.specs.Matching.{AreMatched}
-use Rattle.router_core.specs.Duties.{AreDuties}
+use Rattle.router_requests.specs.Matching.{AreMatched}
+use Rattle.router_requests.specs.Duties.{AreDuties}
 
 -- A replay with this filter repeats events for the rule of this name: it has no filter, or the filter has the name.
 -- Shown by: proofs alone.

@@ -8,7 +8,7 @@ use Rattle.delivery_duties.specs.declared.outcome.Fate.{Fate}
 use Rattle.delivery_queues.specs.Queues.{Queue, has_queue}
 use Rattle.delivery_duties.specs.Retry.{after_attempt, waits, fate_of}
 use Rattle.delivery_duties.specs.Duties.{pending_row, claimed, unclaimed, has_dead_letter_queue, IsNext}
-use Rattle.router_core.specs.Batch.{attempt, Batch}
+use Rattle.router_requests.specs.Batch.{attempt, Batch}
 use Rattle.router_core.specs.Tables.{Tables}
 use Rattle.router_core.specs.declared.errand.Errand.{Errand}
 

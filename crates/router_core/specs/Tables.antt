@@ -13,8 +13,8 @@ use Rattle.replay_run.specs.declared.row.ReplayRow.{ReplayRow}
 use Rattle.replay_run.specs.Replays.{first_row, next_number, stepped_in, cancelled_in}
 use Rattle.rule_table.specs.WellFormed.{most_days}
 use Rattle.delivery_duties.specs.Duties.{Duties, no_duties, with_new_queue, forgotten, with_deleted, added, settled}
-use Rattle.router_core.specs.declared.batch.StartedReplay.{StartedReplay}
-use Rattle.router_core.specs.Batch.{Accepted, Entry, control, accepted, attempt, replay_started, replay_stepped, replay_cancelled, messages_deleted, Batch}
+use Rattle.router_requests.specs.declared.batch.StartedReplay.{StartedReplay}
+use Rattle.router_requests.specs.Batch.{Accepted, Entry, control, accepted, attempt, replay_started, replay_stepped, replay_cancelled, messages_deleted, Batch}
 
 -- The state of the router: the rule set, the duties and the queue messages, the archives with their events, all replays in the order of their
 -- starts, the numbers of events, of operations and of batches so far, and the moment of the last batch.

@@ -1,8 +1,8 @@
 //! Claimed duties, with the memory of their records.
 ghost use Rattle.std.specs.Prelude.{◌≡◌, ◌≤◌, vec_capacity};
 
-use crate::batch::Batch;
 use delivery_duties::Claim;
+use router_requests::Batch;
 use shared_text::{SharedRow, SharedText};
 
 /// A claimed duty, with all memory that the record of its attempt needs. It is let go by `Tables::finish` or `Tables::put_back` alone.

@@ -1,13 +1,13 @@
 //! Laws of batches that are ready, and of replays.
 ghost use Rattle.std.specs.Prelude.{◌≡◌, ◌↔◌, ◌++◌, ℕ, List, All, map};
 ghost use Rattle.archive_keep.specs.declared.event_ref.KeptEvent.{KeptEvent};
-ghost use Rattle.router_core.specs.declared.batch.StartedReplay.{StartedReplay};
-ghost use Rattle.router_core.specs.Batch.{Batch};
+ghost use Rattle.router_requests.specs.declared.batch.StartedReplay.{StartedReplay};
+ghost use Rattle.router_requests.specs.Batch.{Batch};
 ghost use Rattle.router_core.specs.Tables.{Tables, after_batch, first_tables, tables_after};
 ghost use Rattle.router_core.specs.Admitted.{AreBatchesAdmitted, IsNoChange};
 ghost use Rattle.router_core.specs.Ready.{IsNoStart, IsPrepared};
 ghost use Rattle.router_core.specs.Replaying.{IsCompleted, IsStartIn, repeated_in};
-ghost use Rattle.router_core.specs.View.{batch_of};
+ghost use Rattle.router_requests.specs.View.{batch_of};
 ghost use Rattle.router_core.specs.declared.ready.Ready.{Ready};
 
 /// What is prepared for a batch stays prepared while no configuration changes: while events are accepted, attempts are recorded, and replays

@@ -4,22 +4,23 @@ ghost use Rattle.rule_table.specs.Control.{Control as Change};
 ghost use Rattle.rule_table.specs.RuleSet.{RuleSet as Set};
 ghost use Rattle.rule_table.specs.Refusal.{IsAllowed, refusal};
 ghost use Rattle.rule_table.specs.View.{control_of};
-ghost use Rattle.router_core.specs.Batch.{control as change, accepted, replay_started, replay_stepped};
+ghost use Rattle.router_requests.specs.Batch.{control as change, accepted, replay_started, replay_stepped};
 ghost use Rattle.router_core.specs.Admitted.{IsStartAdmitted};
-ghost use Rattle.router_core.specs.View.{accepted_of, entry_of, stepped_of};
+ghost use Rattle.router_requests.specs.View.{accepted_of, entry_of, stepped_of};
 ghost use Rattle.archive_keep.specs.Archive.{Archive as ArchiveView};
 ghost use Rattle.archive_keep.specs.Kept.{IsTextOfEvent};
 ghost use Rattle.router_core.specs.Ready.{IsPartOf, IsMadeOn, IsOneChange, HasPlace, HasArchive, AreKeptAs};
 ghost use Rattle.router_core.specs.declared.ready.Part.{Part as PartView};
-ghost use Rattle.router_core.specs.declared.ready.Part.TheVariants.{Configuration};
+ghost use Rattle.router_core.specs.declared.ready.Part.TheVariants.{Configuration, Start};
+ghost use Rattle.replay_run.specs.declared.replays.NewReplay.{NewReplay as NewReplayView};
 
-use crate::batch::{AcceptedEvent, Batch, Entry, StartedReplay, SteppedReplay};
 use crate::tables::Tables;
 use archive_keep::{Archive, EventRef, KeptEvent};
 use delivery_duties::{NewDuties, NewDuty};
 use delivery_queues::NewQueue;
 use json_text::NoMemory;
-use replay_run::NewReplay;
+use replay_run::{NewReplay, ReplayRow};
+use router_requests::{AcceptedEvent, Batch, Entry, StartedReplay, SteppedReplay};
 use rule_table::{Control, ControlFault, RuleSet};
 use std::alloc::Global;
 use std::collections::{LinkedList, VecDeque};
@@ -109,6 +110,22 @@ impl Part {
     {
         let new_replay = tables.new_replay(alloc, start, moment)?;
         Ok(Part::Start { new_replay })
+    }
+
+    /// The replay of a start.
+    pub fn started(&self) -> Option<&ReplayRow>
+        ensures { MatchOption result
+            ((new : NewReplayView) → ¬ (self.now ≡ Start new))
+            (λ row. (new : NewReplayView) × (self.now ≡ Start new) × (row.now ≡ new.row)) }
+    {
+        match self {
+            Part::Start { new_replay } => Some(new_replay.row.value()),
+            Part::Configuration { .. }
+            | Part::Event { .. }
+            | Part::Step { .. }
+            | Part::Cancellation
+            | Part::Nothing => None,
+        }
     }
 
     /// The part of the step. Its duties share their texts and their targets' rows with those of the step.

@@ -1,9 +1,9 @@
 //! What is left after a batch was applied.
-use crate::batch::Batch;
 use crate::ready::Part;
 use archive_keep::{Archive, EventRef};
 use delivery_queues::{DeletedMessages, RemovedQueue};
 use replay_run::{Rest, Stepped};
+use router_requests::Batch;
 use rule_table::RuleSet;
 use shared_text::{SharedRow, SharedText};
 use std::collections::{LinkedList, VecDeque};

@@ -6,10 +6,10 @@ ghost use Rattle.delivery_duties.specs.declared.duty.DutyRow.{DutyRow};
 ghost use Rattle.delivery_duties.specs.declared.outcome.Outcome.{Outcome as Ended};
 ghost use Rattle.delivery_queues.specs.Queues.{message_count};
 ghost use Rattle.delivery_duties.specs.Duties.{NoneDue, IsOut, pending_row};
-ghost use Rattle.router_core.specs.Batch.{Accepted as Event, Stepped as Step, accepted, control as change, messages_deleted};
-ghost use Rattle.router_core.specs.Batch.{replay_started, replay_stepped, replay_cancelled};
-ghost use Rattle.router_core.specs.declared.batch.StartedReplay.{StartedReplay as Start};
-ghost use Rattle.router_core.specs.View.{batch_of, entry_of};
+ghost use Rattle.router_requests.specs.Batch.{Accepted as Event, Stepped as Step, accepted, control as change, messages_deleted};
+ghost use Rattle.router_requests.specs.Batch.{replay_started, replay_stepped, replay_cancelled};
+ghost use Rattle.router_requests.specs.declared.batch.StartedReplay.{StartedReplay as Start};
+ghost use Rattle.router_requests.specs.View.{batch_of, entry_of};
 ghost use Rattle.router_core.specs.Tables.{first_tables, after_entry, after_batch, is_full, number_limit, settings_of, IsConsistent};
 ghost use Rattle.router_core.specs.Admitted.{IsAdmitted, IsEntryAdmitted, IsStartAdmitted};
 ghost use Rattle.router_core.specs.Ready.{IsPartOf, IsMadeOn, IsNewReplay, IsReadyFor};
@@ -22,7 +22,6 @@ ghost use Rattle.router_core.specs.Parts.{deleted_by, with_created, with_forgott
 ghost use Rattle.rule_table.specs.View.{control_of};
 ghost use Rattle.router_core.specs.Steps.{IsErrandOf, IsClaimed, IsRecordedAs, record_of, putting_back, fate_after};
 
-use crate::batch::{Batch, Entry, StartedReplay};
 use crate::errand::Errand;
 use crate::keeping::{change_archives, keep_each, purge};
 use crate::ready::{Part, Ready};
@@ -33,6 +32,7 @@ use delivery_queues::{NewQueue, RemovedQueue};
 use event_shape::queue_of;
 use json_text::{NoMemory, Text};
 use replay_run::{NewReplay, ReplaySettings, Replays, RuleNames};
+use router_requests::{Batch, Entry, StartedReplay, copied_rules};
 use rule_table::{ArchiveRow, Control, RuleSet};
 use shared_text::{SharedRow, SharedText};
 use std::alloc::Global;
@@ -604,7 +604,7 @@ fn settings_of(
     let name = start.name.copy(alloc)?;
     let archive = start.archive.copy(alloc)?;
     let bus = Text::from_str(alloc, row.bus())?;
-    let rules = copied(alloc, &start.rules)?;
+    let rules = copied_rules(alloc, &start.rules)?;
     Ok(ReplaySettings {
         name,
         archive,
@@ -613,27 +613,6 @@ fn settings_of(
         rules,
         started_at: moment,
     })
-}
-
-/// The same filter, if there is one.
-fn copied(alloc: Global, rules: &Option<RuleNames>) -> Result<Option<RuleNames>, NoMemory>
-    ensures { IfOk result (λ same. same ≡ rules.now) }
-{
-    match rules {
-        Some(rules) => Ok(Some(RuleNames::new(copies(alloc, rules.names())?))),
-        None => Ok(None),
-    }
-}
-
-/// The same names.
-fn copies(alloc: Global, names: &[Text]) -> Result<Vec<Text>, NoMemory>
-    ensures { IfOk result (λ same. same.items ≡ names.now) }
-{
-    let mut same = Vec::with_capacity(alloc, names.len())?;
-    for name in names {
-        same.push(name.copy(alloc)?)?;
-    }
-    Ok(same)
 }
 
 /// Creates the queue, if there is one to create.

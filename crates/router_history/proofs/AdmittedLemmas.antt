@@ -7,7 +7,7 @@ use Rattle.std.specs.Option.{option_map}
 use Rattle.rule_table.specs.Control.{Control, bus_deleted, queue_deleted}
 use Rattle.delivery_duties.specs.Duties.{Duties, is_for_queue, names_queue}
 use Rattle.delivery_queues.specs.Queues.{messages_of}
-use Rattle.router_core.specs.Batch.{Entry, control, accepted, attempt, replay_started, replay_stepped, replay_cancelled, messages_deleted, Batch}
+use Rattle.router_requests.specs.Batch.{Entry, control, accepted, attempt, replay_started, replay_stepped, replay_cancelled, messages_deleted, Batch}
 use Rattle.router_core.specs.Tables.{Tables, after_entry, tables_after}
 use Rattle.router_core.specs.Admitted.{IsEntryAdmitted, AreAdmitted, IsAdmitted, IsUnnamed}
 use Rattle.duty_journal.specs.Batch.{IsReadable}

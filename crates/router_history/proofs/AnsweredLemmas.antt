@@ -8,23 +8,23 @@ use Rattle.api_replies.specs.Written.{reply_text}
 use Rattle.api_replies.specs.declared.reply.Reply.{Reply as CodeReply}
 use Rattle.rule_table.specs.RuleSet.{RuleSet}
 use Rattle.rule_table.specs.Sound.{IsSound}
-use Rattle.router_core.specs.Batch.{Batch}
-use Rattle.router_core.specs.Request.{Request}
-use Rattle.router_core.specs.Matching.{IsSeen}
+use Rattle.router_requests.specs.Batch.{Batch}
+use Rattle.router_requests.specs.Request.{Request}
+use Rattle.router_requests.specs.Matching.{IsSeen}
 use Rattle.router_core.specs.Ready.{IsReadyFor}
-use Rattle.router_core.specs.declared.seen.Seen.{Seen}
+use Rattle.router_requests.specs.declared.seen.Seen.{Seen}
 use Rattle.router_calls.specs.Matched.{IsMatchedOn}
 use Rattle.router_core.specs.Tables.{Tables, tables_after}
-use Rattle.router_core.specs.View.{request_of, batch_of}
+use Rattle.router_requests.specs.View.{request_of, batch_of}
 use Rattle.router_core.specs.declared.ready.Ready.{Ready}
-use Rattle.router_core.specs.declared.request.Request.{Request as CodeRequest}
+use Rattle.router_requests.specs.declared.request.Request.{Request as CodeRequest}
 use Rattle.router_calls.specs.Answer.{IsAnswer}
-use Rattle.router_calls.specs.Decided.{answer_of}
+use Rattle.router_calls.specs.View.{answer_of}
 use Rattle.router_calls.proofs.FormLemmas.{request_form}
 use Rattle.router_history.specs.declared.book.Machine.{Machine}
 use Rattle.router_history.specs.declared.book.Seat.{Seat}
 use Rattle.router_history.specs.declared.book.TurnReply.{TurnReply}
-use Rattle.router_history.specs.History.{Turn, State, asked, last_version, set_of_version, state_of, IsAskable, IsAnsweredBy, after_change, with_written}
+use Rattle.router_history.specs.History.{Turn, State, asked, last_version, set_of_version, state_of, IsAskable, IsAnsweredBy, IsWriteAdmitted, after_change, with_written}
 use Rattle.router_history.specs.Book.{turns_of, IsSoundMachine}
 use Rattle.router_history.specs.Answered.{turn_text, IsUnrendered, IsAnswered, IsDecided}
 use Rattle.router_history.proofs.BookLemmas.{set_of, version_of, IsMade, made_book, made_makes, placed_on, turn_by}
@@ -101,6 +101,10 @@ written_tables : (b : Option Batch) (s : State) → (after_change b s).tables �
 written_tables None s = refl
 written_tables (Some b) s = refl
 
+admitted_if : (t : Tables) (o : Option Ready) → IfSome o (λ r. IsReadyFor t r) → IsWriteAdmitted t (option_map (λ r. batch_of r.batch) o)
+admitted_if t None ready = tt
+admitted_if t (Some r) ready = ready.admitted
+
 pub answered_book : {seat : Seat} {request : Request} {old new : Machine} {turn : Turn} (p : Option Ready × CodeReply)
     → IsMade seat (asked request) (decided_batch p) old new turn → IsAskable request → IsDecided old.tables request p → IsSome seat.connection
     → ((state_of (turns_of old)).broken ≡ true → decided_batch p ≡ None) → new.tables ≡ tables_after (with_written (decided_batch p) []) old.tables → IsSoundMachine new
@@ -111,6 +115,7 @@ answered_book {seat} {request} {old} {new} {turn} p m askable decided named unwr
       (reply_of p.1, answered_by p m askable decided),
       λ broken. m.batch ∙ unwritten broken,
     )
+    (admitted_if old.tables p.0 decided.ready)
     (tables
     ∙ ap (λ b. tables_after (with_written b []) old.tables) (sym m.batch)
     ∙ ap (tables_after (with_written turn.batch [])) (sym m.kept.tables)

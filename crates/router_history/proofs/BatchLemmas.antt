@@ -2,9 +2,9 @@
 -- `unacknowledged_one`, `disk_one`, `found_one`, `appended_one`; the batches are those that were found and those that were appended: `batches_split`.
 use Rattle.std.proofs.Common.{◌≡◌, true, false, List, [], ◌∷◌, ◌++◌, Option, Some, None, refl, sym, ap, ◌∙◌, append_assoc, append-nil}
 use Rattle.std.proofs.lemmas.Bool.{true≢false}
-use Rattle.router_core.specs.Batch.{Batch}
+use Rattle.router_requests.specs.Batch.{Batch}
 use Rattle.router_core.specs.Tables.{first_tables}
-use Rattle.router_history.specs.History.{Turn, State, Ask, opens, asked, claims, records, puts_back, breaks, found_by, with_written, begun, state_of, state_after, batches_of, unacknowledged_by, unacknowledged_of}
+use Rattle.router_history.specs.History.{Turn, State, Ask, opens, asked, claims, records, puts_back, repeats, breaks, found_by, with_written, begun, state_of, state_after, batches_of, unacknowledged_by, unacknowledged_of}
 use Rattle.router_history.specs.History.{after_ask, after_turn, IsTurnFor, AreTurnsFrom, IsLegal}
 use Rattle.router_history.specs.Book.{IsBook}
 use Rattle.router_history.specs.Home.{found_of, appended_of}
@@ -43,11 +43,12 @@ stays_ask turn (asked request) s is broken = broken_written turn.batch s ∙ bro
 stays_ask turn (claims c) s is broken = broken
 stays_ask turn (records a) s is broken = broken_written turn.batch s ∙ broken
 stays_ask turn (puts_back c why) s is broken = broken
+stays_ask turn (repeats reading) s is broken = broken_written turn.batch s ∙ broken
 stays_ask turn (breaks unsure) s is broken = refl
 
 stays_broken : (turns : List Turn) (s : State) → AreTurnsFrom s turns → s.broken ≡ true → (state_after turns s).broken ≡ true
 stays_broken [] s legal broken = broken
-stays_broken (turn ∷ turns) s legal broken = stays_broken turns (after_turn turn s) legal.1 (stays_ask turn turn.ask s legal.0 broken)
+stays_broken (turn ∷ turns) s legal broken = stays_broken turns (after_turn turn s) legal.1 (stays_ask turn turn.ask s legal.0.made_for broken)
 
 none_by : (turn : Turn) (ask : Ask) (s : State) → ((after_ask turn ask s).broken ≡ true → ⊥) → unacknowledged_by ask ≡ []
 none_by turn (opens start found disk) s never = refl
@@ -55,6 +56,7 @@ none_by turn (asked request) s never = refl
 none_by turn (claims c) s never = refl
 none_by turn (records a) s never = refl
 none_by turn (puts_back c why) s never = refl
+none_by turn (repeats reading) s never = refl
 none_by turn (breaks unsure) s never = absurd (never refl)
 
 none_after : (turns : List Turn) (s : State) → AreTurnsFrom s turns → (state_after turns s).broken ≡ false → unacknowledged_of turns ≡ []
@@ -89,7 +91,7 @@ pub after_one : (old new : List Turn) (turn : Turn) (ask : Ask) → turn.ask ≡
 after_one old new turn ask is turns = ap state_of turns ∙ state_append _ old (turn ∷ []) ∙ ap (λ a. after_ask turn a (state_of old)) is
 
 pub legal_one : (old new : List Turn) (turn : Turn) → IsBook old → IsBook new → new ≡ old ++ turn ∷ [] → IsTurnFor (state_of old) turn turn.ask
-legal_one old new turn h h_new turns = (added_legal old new (turn ∷ []) h h_new turns).0
+legal_one old new turn h h_new turns = (added_legal old new (turn ∷ []) h h_new turns).0.made_for
 
 pub batches_one : (old new : List Turn) (turn : Turn) (ask : Ask) (batch : Option Batch) → IsBook old → IsBook new → turn.ask ≡ ask → turn.batch ≡ batch
     → new ≡ old ++ turn ∷ [] → batches_of new ≡ batches_of old ++ with_written batch []

@@ -5,11 +5,11 @@ use Rattle.std.proofs.lemmas.List.Elements.{All-head, All-tail}
 use Rattle.archive_keep.specs.Archive.{Archive}
 use Rattle.rule_table.specs.Control.{Control}
 use Rattle.rule_table.specs.RuleSet.{RuleSet, applied}
-use Rattle.router_core.specs.Batch.{Entry, control, accepted, attempt, replay_started, replay_stepped, replay_cancelled, messages_deleted}
+use Rattle.router_requests.specs.Batch.{Entry, control, accepted, attempt, replay_started, replay_stepped, replay_cancelled, messages_deleted}
 use Rattle.router_core.specs.Tables.{Tables, after_entry, after_entries, after_batch}
 use Rattle.router_core.specs.Admitted.{AreOfOneTurn, IsAnEvent}
 use Rattle.router_core.specs.Ready.{ArePartsOf, IsOneChange, IsReadyFor}
-use Rattle.router_core.specs.View.{batch_of}
+use Rattle.router_requests.specs.View.{batch_of}
 use Rattle.router_core.specs.declared.ready.Part.{Part}
 use Rattle.router_core.specs.declared.ready.Part.TheVariants.{Configuration, Event, Start, Step, Cancellation, Nothing}
 use Rattle.router_core.specs.declared.ready.Ready.{Ready}

@@ -5,14 +5,15 @@ use Rattle.std.proofs.Math.Seq.{take-length}
 use Rattle.std.proofs.lemmas.List.Elements.{All-append, All-nil}
 use Rattle.rule_table.specs.Control.{Control}
 use Rattle.rule_table.specs.RuleSet.{RuleSet, applied_all}
-use Rattle.router_core.specs.Batch.{Batch}
+use Rattle.router_core.specs.Admitted.{AreBatchesAdmitted}
+use Rattle.router_requests.specs.Batch.{Batch}
 use Rattle.router_core.specs.Tables.{Tables, first_tables}
 use Rattle.courier_run.specs.Act.{makes}
 use Rattle.router_history.specs.declared.book.Machine.{Machine}
 use Rattle.router_history.specs.declared.book.Seat.{Seat}
 use Rattle.router_history.specs.declared.history.History.{History}
 use Rattle.router_history.specs.declared.history.Turn.{Turn as CodeTurn}
-use Rattle.router_history.specs.History.{OpenedDisk, Ask, opens, Turn, State, Placed, IsTurnFor, IsLatest, last_version, set_of_version, IsLegal, AreTurnsFrom, after_ask, state_after, state_of, begun_with, after_all, AreLawful}
+use Rattle.router_history.specs.History.{OpenedDisk, Ask, opens, Turn, State, Placed, IsTurnFor, IsTurnOf, IsWriteAdmitted, IsLatest, last_version, set_of_version, IsLegal, AreTurnsFrom, after_ask, state_after, state_of, begun_with, after_all}
 use Rattle.router_history.specs.Book.{recorded_in, turns_of, opening_on, opening, HasGrown, IsBook, IsSoundMachine}
 use Rattle.router_history.specs.Acts.{Makes}
 use Rattle.router_history.specs.Answered.{IsAdded}
@@ -54,11 +55,11 @@ opens_same : (a b : Tables) (xs ys : List Batch) (d e : Option OpenedDisk) → o
 opens_same a b xs ys d e is = (cc, cc)
 
 -- what was found is lawful
-pub found_lawful : (turns : List Turn) (h : IsBook turns) → AreLawful first_tables h.found
+pub found_lawful : (turns : List Turn) (h : IsBook turns) → AreBatchesAdmitted first_tables h.found
 found_lawful turns h =
     let o = (subst IsLegal h.opened h.legal).0 in
     let (start, found) = opens_same first_tables o.start h.found o.found h.disk o.disk o.ask in
-    subst (λ (t : Tables). AreLawful t h.found) start (subst (AreLawful o.start) found o.lawful)
+    subst (λ (t : Tables). AreBatchesAdmitted t h.found) start (subst (AreBatchesAdmitted o.start) found o.lawful)
 
 -- the turns that a book has beyond another one
 pub added_legal : (old new added : List Turn) → IsBook old → IsBook new → new ≡ old ++ added → AreTurnsFrom (state_of old) added
@@ -67,7 +68,7 @@ added_legal old new added h h_new is =
     subst (λ (s : State). AreTurnsFrom s added) (sym (state_later old h)) (turns_back (opened_state h.found h.disk) h.later added all.1).1
 
 -- a book with one turn more
-pub book_more : (old new : List Turn) (turn : Turn) → IsBook old → IsTurnFor (state_of old) turn turn.ask → new ≡ old ++ turn ∷ [] → IsBook new
+pub book_more : (old new : List Turn) (turn : Turn) → IsBook old → IsTurnOf (state_of old) turn → new ≡ old ++ turn ∷ [] → IsBook new
 book_more old new turn h is turns =
     let opened : new ≡ opening_on h.found h.disk ∷ (h.later ++ turn ∷ []) = turns ∙ ap (λ (ts : List Turn). ts ++ turn ∷ []) h.opened in
     let first : IsLegal (opening_on h.found h.disk ∷ h.later) = subst IsLegal h.opened h.legal in
@@ -79,7 +80,7 @@ book_more old new turn h is turns =
       legal = subst IsLegal (sym opened) (
         first.0,
         turns_append (opened_state h.found h.disk) h.later (turn ∷ []) first.1
-            (subst (λ (s : State). IsTurnFor s turn turn.ask) (state_later old h) is, tt),
+            (subst (λ (s : State). IsTurnOf s turn) (state_later old h) is, tt),
       );
     }
 
@@ -136,10 +137,14 @@ made_state {seat} {ask} {batch} {old} {new} {turn} m =
     ∙ ap (λ a. after_ask turn a (state_of (turns_of old))) m.made_for
 
 pub made_book : {seat : Seat} {ask : Ask} {batch : Option Batch} {old new : Machine} {turn : Turn} → IsMade seat ask batch old new turn
-    → IsTurnFor (state_of (turns_of old)) turn ask → new.tables ≡ (after_ask turn ask (state_of (turns_of old))).tables → IsSoundMachine new
-made_book {seat} {ask} {batch} {old} {new} {turn} m is tables = record {
+    → IsTurnFor (state_of (turns_of old)) turn ask → IsWriteAdmitted old.tables batch → new.tables ≡ (after_ask turn ask (state_of (turns_of old))).tables
+    → IsSoundMachine new
+made_book {seat} {ask} {batch} {old} {new} {turn} m is admitted tables = record {
   book = book_more (turns_of old) (turns_of new) turn m.kept.book
-      (subst (λ (a : Ask). IsTurnFor (state_of (turns_of old)) turn a) (sym m.made_for) is) m.turns;
+      (record {
+        made_for = subst (λ (a : Ask). IsTurnFor (state_of (turns_of old)) turn a) (sym m.made_for) is;
+        admitted = subst (λ (t : Tables). IsWriteAdmitted t turn.batch) (sym m.kept.tables) (subst (IsWriteAdmitted old.tables) (sym m.batch) admitted);
+      }) m.turns;
   tables = ap (λ (s : State). s.tables) (made_state m) ∙ sym tables;
 }
 

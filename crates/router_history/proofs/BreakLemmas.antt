@@ -7,12 +7,12 @@ use Rattle.api_replies.specs.declared.reply.Reply.{Reply as CodeReply}
 use Rattle.delivery_duties.specs.declared.outcome.Outcome.{Outcome}
 use Rattle.rule_table.specs.RuleSet.{RuleSet}
 use Rattle.router_core.specs.Admitted.{IsAdmitted}
-use Rattle.router_core.specs.Batch.{Batch}
-use Rattle.router_core.specs.Request.{Request}
+use Rattle.router_requests.specs.Batch.{Batch}
+use Rattle.router_requests.specs.Request.{Request}
 use Rattle.router_core.specs.Steps.{IsRecordedAs, record_of}
 use Rattle.router_core.specs.Tables.{Tables, is_full, moment_at}
-use Rattle.router_core.specs.View.{batch_of}
-use Rattle.router_core.specs.declared.batch.Batch.{Batch as CodeBatch}
+use Rattle.router_requests.specs.View.{batch_of}
+use Rattle.router_requests.specs.declared.batch.Batch.{Batch as CodeBatch}
 use Rattle.router_core.specs.declared.ready.Ready.{Ready}
 use Rattle.courier_run.specs.Act.{makes}
 use Rattle.courier_run.specs.Claim.{Claim}
@@ -53,7 +53,7 @@ broke_kept {seat} {b} {old} {new} {turn} m unbroken journal admitted tables =
       unbroken = unbroken;
       numbered = subst (λ (t : Tables). is_full t ≡ false) (sym m.kept.tables) admitted.numbered;
       lawful = (subst (λ (t : Tables). IsAdmitted t b) (sym m.kept.tables) admitted, tt);
-    }) (tables ∙ sym m.kept.tables)
+    }) tt (tables ∙ sym m.kept.tables)
 
 pub broke : {seat : Seat} {b : Batch} {old new : Machine} {turn : Turn} → IsMade seat (breaks (b ∷ [])) None old new turn
     → IsBroken seat b (turns_of old) (turns_of new)

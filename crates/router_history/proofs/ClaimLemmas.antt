@@ -96,7 +96,7 @@ pub claimed_book : {seat : Seat} {old new : Machine} {turn : Turn} (held : Held)
     → IsMade seat (claims (held_claim held)) None old new turn → is_full old.tables ≡ false → (state_of (turns_of old)).broken ≡ false → IsMoment held.reading
     → Rests seat.pass (turns_of old) → moment ≡ moment_at old.tables held.reading → IsErrandClaimed old.tables moment held.errand new.tables → IsSoundMachine new
 claimed_book {seat} {old} {new} {turn} held moment m numbered unbroken reading rests at is =
-    made_book m (claim_turn held moment m numbered unbroken reading rests at is) (is.tables ∙ ap (claiming held.errand.claim.number) (sym m.kept.tables))
+    made_book m (claim_turn held moment m numbered unbroken reading rests at is) tt (is.tables ∙ ap (claiming held.errand.claim.number) (sym m.kept.tables))
 
 pub claimed : {seat : Seat} {old new : Machine} {turn : Turn} (held : Held)
     → IsMade seat (claims (held_claim held)) None old new turn → Rests seat.pass (turns_of old)

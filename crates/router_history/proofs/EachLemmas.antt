@@ -4,7 +4,7 @@ use Rattle.std.proofs.lemmas.Bool.{true≢false}
 use Rattle.router_disk.specs.declared.disk_call.DiskCall.{DiskCall}
 use Rattle.router_disk.specs.Disk.{AreAnswers, IsImageSince}
 use Rattle.router_disk.proofs.DiskLemmas.{IsImageSince-now}
-use Rattle.router_core.specs.Batch.{Batch}
+use Rattle.router_requests.specs.Batch.{Batch}
 use Rattle.router_core.specs.Tables.{first_tables}
 use Rattle.duty_journal.specs.declared.fault.DiskFault.{DiskFault}
 use Rattle.duty_journal.specs.Journal.{AreKept, StayKept}

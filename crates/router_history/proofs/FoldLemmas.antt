@@ -13,9 +13,9 @@ use Rattle.delivery_duties.specs.declared.verdict.Verdict.TheVariants.{Deliver, 
 use Rattle.delivery_duties.specs.Retry.{Attempt, begun, retried, too_long, verdict_of, dead_letter_queue}
 use Rattle.delivery_duties.specs.Duties.{Duties, pending_row, replaced, failed, has_dead_letter_queue, added_one, added, marked_row, settled_by, settled_row}
 use Rattle.delivery_duties.specs.Duties.{settled, attempt_of}
-use Rattle.router_core.specs.Batch.{Batch, Entry, control, accepted, attempt, replay_started, replay_stepped, replay_cancelled, messages_deleted}
+use Rattle.router_requests.specs.Batch.{Batch, Entry, control, accepted, attempt, replay_started, replay_stepped, replay_cancelled, messages_deleted}
 use Rattle.router_core.specs.Tables.{Tables, first_tables, duties_after, after_entry, after_entries, purged_at, after_batch, tables_after}
-use Rattle.router_history.specs.History.{Ask, opens, asked, claims, records, puts_back, breaks, found_by, Turn, State, after_change, after_turn, state_after, state_of}
+use Rattle.router_history.specs.History.{Ask, opens, asked, claims, records, puts_back, repeats, breaks, found_by, Turn, State, after_change, after_turn, state_after, state_of}
 use Rattle.router_history.specs.History.{IsTurnFor, AreTurnsFrom, batches_of, with_written, begun_with, after_all, after_written}
 use Rattle.router_history.specs.Folds.{unclaimed_entry, without_claims}
 use Rattle.router_history.specs.Book.{IsBook}
@@ -166,20 +166,21 @@ turn_freed turn (asked request) s bs e h is = rw e (written_freed turn.batch s b
 turn_freed turn (claims c) s bs e h is = rw e (unwritten_freed true c.number turn.batch s.tables bs is.unwritten h.numbered)
 turn_freed turn (records a) s bs e h is = rw e (written_freed turn.batch s bs)
 turn_freed turn (puts_back c why) s bs e h is = rw e (unwritten_freed false c.number turn.batch s.tables bs is.0 h.numbered)
+turn_freed turn (repeats reading) s bs e h is = rw e (written_freed turn.batch s bs)
 turn_freed turn (breaks unsure) s bs e h is = rw e (ap (λ w. tables_after (with_written w bs) (without_claims s.tables)) (sym is.unwritten))
 
 pub folds : (s : State) (turns : List Turn) → AreTurnsFrom s turns → IsSteady s
     → without_claims (state_after turns s).tables ≡ tables_after (batches_of turns) (without_claims s.tables)
 folds s [] legal h = refl
 folds s (turn ∷ turns) legal h =
-    folds (after_turn turn s) turns legal.1 (steady_ask turn turn.ask s legal.0 h) ∙ turn_freed turn turn.ask s (batches_of turns) refl h legal.0
+    folds (after_turn turn s) turns legal.1 (steady_ask turn turn.ask s legal.0.made_for h) ∙ turn_freed turn turn.ask s (batches_of turns) refl h legal.0.made_for
 
 -- batches that were found
 pub found_tables : (found : List Batch) (s : State) → (after_all found s).tables ≡ tables_after found s.tables
 found_tables [] s = refl
 found_tables (b ∷ bs) s = found_tables bs (after_written b s)
 
-tables_freed : (bs : List Batch) (t : Tables) → without_claims (tables_after bs t) ≡ tables_after bs (without_claims t)
+pub tables_freed : (bs : List Batch) (t : Tables) → without_claims (tables_after bs t) ≡ tables_after bs (without_claims t)
 tables_freed [] t = refl
 tables_freed (b ∷ bs) t = tables_freed bs (after_batch b t) ∙ ap (tables_after bs) (batch_freed b t)
 

@@ -10,7 +10,7 @@ use Rattle.router_disk.specs.Faults.{Rose, CountsFaults}
 use Rattle.record_file.specs.Append.{MadeCalls}
 use Rattle.rule_table.specs.RuleSet.{RuleSet}
 use Rattle.router_core.specs.Admitted.{IsAdmitted}
-use Rattle.router_core.specs.Batch.{Batch}
+use Rattle.router_requests.specs.Batch.{Batch}
 use Rattle.router_core.specs.Tables.{Tables, first_tables, tables_after, after_batch}
 use Rattle.duty_journal.specs.declared.fault.DiskFault.{DiskFault}
 use Rattle.duty_journal.specs.declared.journal.Journal as journals

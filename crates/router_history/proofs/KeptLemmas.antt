@@ -1,4 +1,5 @@
--- The row of a duty, once another duty was claimed, released or attempted, or a request was answered: `marked_other`, `settled_other`, `written_keeps`.
+-- The row of a duty, once another duty was claimed, released or attempted, or a request was answered: `marked_other`, `settled_other`, `written_keeps`; or a
+-- step of the replays was made: `repeat_keeps`.
 use Rattle.std.proofs.Common.{◌≡◌, ◌≢◌, ℕ, ◌+◌, ◌≤◌, Bool, true, false, cond, eqb, ltb, List, [], ◌∷◌, Option, Some, None}
 use Rattle.std.proofs.Common.{refl, sym, ap, ◌∙◌, arith}
 use Rattle.std.proofs.lemmas.Bool.{ne_eqb}
@@ -13,9 +14,10 @@ use Rattle.delivery_duties.specs.declared.verdict.Verdict.TheVariants.{Deliver, 
 use Rattle.delivery_duties.specs.Retry.{Attempt, begun, retried, too_long, verdict_of, dead_letter_queue}
 use Rattle.delivery_duties.specs.Duties.{Duties, pending_row, replaced, failed, has_dead_letter_queue, added_one, added, marked_row}
 use Rattle.delivery_duties.specs.Duties.{settled_by, settled_row, attempt_of}
-use Rattle.router_core.specs.Batch.{Batch, Entry, control, accepted, attempt, replay_started, replay_stepped, replay_cancelled, messages_deleted}
+use Rattle.router_requests.specs.Batch.{Batch, Entry, control, accepted, attempt, replay_started, replay_stepped, replay_cancelled, messages_deleted}
 use Rattle.router_core.specs.Tables.{Tables, duties_after, after_entry, after_entries}
-use Rattle.router_core.specs.Request.{Action}
+use Rattle.router_core.specs.Replaying.{IsReplayStep}
+use Rattle.router_requests.specs.Request.{Action}
 use Rattle.router_calls.proofs.FormLemmas.{IsOf, AreOf, WritesOf}
 use Rattle.router_history.specs.History.{State, after_change}
 use Rattle.router_history.proofs.PendingLemmas.{AreNumbered, row_number}
@@ -94,9 +96,9 @@ entry_keeps : (before : Tables) (action : Action) (moment : ℕ) (e : Entry) (ke
 entry_keeps before action moment (control c) key t is known = changed c key t.duties known
 entry_keeps before action moment (accepted e) key t is known = all_added e.duties moment key t.duties known
 entry_keeps before action moment (attempt duty outcome) key t is known = absurd is
-entry_keeps before action moment (replay_started s) key t is known = absurd is
+entry_keeps before action moment (replay_started s) key t is known = (refl, known)
 entry_keeps before action moment (replay_stepped s) key t is known = absurd is
-entry_keeps before action moment (replay_cancelled name) key t is known = absurd is
+entry_keeps before action moment (replay_cancelled name) key t is known = (refl, known)
 entry_keeps before action moment (messages_deleted queue through) key t is known = (refl, known)
 
 entries_keep : (before : Tables) (action : Action) (moment : ℕ) (es : List Entry) (key : ℕ) (t : Tables) → AreOf before action es → key ≤ t.duties.created
@@ -112,3 +114,10 @@ pub written_keeps : (before : Tables) (action : Action) (b : Option Batch) (key 
     → pending_row key (after_change b s).tables.duties ≡ pending_row key s.tables.duties
 written_keeps before action None key s of known = refl
 written_keeps before action (Some b) key s of known = (entries_keep before action b.moment b.entries key s.tables of known).0
+
+-- the row of a duty after a step of the replays
+pub repeat_keeps : (b : Option Batch) (key : ℕ) (s : State) (moment : ℕ) (batch : Batch) → b ≡ Some batch → IsReplayStep s.tables moment batch
+    → key ≤ s.tables.duties.created → pending_row key (after_change b s).tables.duties ≡ pending_row key s.tables.duties
+repeat_keeps b key s moment batch wrote step known =
+    ap (λ (x : Option Batch). pending_row key (after_change x s).tables.duties) (wrote ∙ ap Some step.is)
+    ∙ (all_added step.duties moment key s.tables.duties known).0

@@ -1,9 +1,9 @@
 -- A legal history has the mark exactly if its book is broken: `marked`, `breaks_so`.
 use Rattle.std.proofs.Common.{◌≡◌, ◌⊎◌, inl, inr, true, false, List, [], ◌∷◌, Option, Some, None, refl, sym, ap, ◌∙◌}
 use Rattle.std.proofs.lemmas.Bool.{true≢false}
-use Rattle.router_core.specs.Batch.{Batch}
+use Rattle.router_requests.specs.Batch.{Batch}
 use Rattle.router_core.specs.Tables.{first_tables}
-use Rattle.router_history.specs.History.{Ask, opens, asked, claims, records, puts_back, breaks, Turn, State, begun, begun_with, after_change, after_ask, after_turn, state_after, state_of}
+use Rattle.router_history.specs.History.{Ask, opens, asked, claims, records, puts_back, repeats, breaks, Turn, State, begun, begun_with, after_change, after_ask, after_turn, state_after, state_of}
 use Rattle.router_history.specs.History.{HasMark, IsTurnFor, AreTurnsFrom, IsLegal}
 use Rattle.router_history.proofs.SteadyLemmas.{found_whole}
 
@@ -19,18 +19,19 @@ broken_ask turn (asked request) s is = inl (broken_written turn.batch s)
 broken_ask turn (claims c) s is = inl refl
 broken_ask turn (records a) s is = inl (broken_written turn.batch s)
 broken_ask turn (puts_back c why) s is = inl refl
+broken_ask turn (repeats reading) s is = inl (broken_written turn.batch s)
 broken_ask turn (breaks bs) s is = inr (bs, refl, refl)
 
 mark_found : (turns : List Turn) (s : State) → AreTurnsFrom s turns → s.broken ≡ false → (state_after turns s).broken ≡ true → HasMark turns
 mark_found [] s legal whole broken = absurd (true≢false (sym broken ∙ whole))
-mark_found (turn ∷ turns) s legal whole broken = elim (broken_ask turn turn.ask s legal.0) [
+mark_found (turn ∷ turns) s legal whole broken = elim (broken_ask turn turn.ask s legal.0.made_for) [
   | inl same ↦ inr (mark_found turns (after_turn turn s) legal.1 (same ∙ whole) broken)
   | inr mark ↦ inl (mark.0, mark.1)
 ]
 
 still_broken : (turns : List Turn) (s : State) → AreTurnsFrom s turns → s.broken ≡ true → (state_after turns s).broken ≡ true
 still_broken [] s legal broken = broken
-still_broken (turn ∷ turns) s legal broken = elim (broken_ask turn turn.ask s legal.0) [
+still_broken (turn ∷ turns) s legal broken = elim (broken_ask turn turn.ask s legal.0.made_for) [
   | inl same ↦ still_broken turns (after_turn turn s) legal.1 (same ∙ broken)
   | inr mark ↦ still_broken turns (after_turn turn s) legal.1 mark.2
 ]

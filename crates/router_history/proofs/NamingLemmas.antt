@@ -1,5 +1,6 @@
 -- The duties of an answer's events name their rules, if the rules are named by the ends of their ARNs: `BatchNames`, `answer_names`.
-use Rattle.std.proofs.Common.{◌≡◌, ℕ, ◌+◌, Bool, true, false, cond, inl, inr, List, [], ◌∷◌, map, Option, Some, None, Result, Ok, Err, refl, sym, subst}
+-- So do the duties of a step of the replays: `repeat_names`.
+use Rattle.std.proofs.Common.{◌≡◌, ℕ, ◌+◌, Bool, true, false, cond, inl, inr, List, [], ◌∷◌, map, filter, Option, Some, None, Result, Ok, Err, refl, sym, subst}
 use Rattle.std.specs.Prelude.{All, nat_lt}
 use Rattle.std.specs.List.{AllByRecursion}
 use Rattle.std.proofs.lemmas.List.Elements.{All-nil, All-cons, All-head, All-tail, All-append}
@@ -15,22 +16,24 @@ use Rattle.rule_table.proofs.RowLemmas.{All_named}
 use Rattle.name_rows.specs.Rows.{named}
 use Rattle.delivery_duties.specs.declared.duty.NewDuty.{NewDuty}
 use Rattle.entry_bytes.specs.Duty.{IsNamed}
-use Rattle.router_core.specs.Batch as batch
-use Rattle.router_core.specs.Batch.{Batch}
-use Rattle.router_core.specs.Request.{Action, Request, put_events, IsPublishing}
+use Rattle.router_requests.specs.Batch as batch
+use Rattle.router_requests.specs.Batch.{Batch}
+use Rattle.router_requests.specs.Request.{Action, Request, put_events, IsPublishing}
 use Rattle.router_core.specs.Tables.{Tables, is_full, moment_at}
-use Rattle.router_core.specs.Duties.{AreDuties}
-use Rattle.router_core.specs.Matching.{AreMatched, AreTargetsOf, AreSeenEntries, IsSeenResult, seen_target}
-use Rattle.router_core.specs.declared.seen.SeenEntry.{SeenEntry}
-use Rattle.router_core.specs.declared.seen.SeenResult.{SeenResult}
-use Rattle.router_core.specs.declared.seen.SeenResult.TheVariants.{Entries, Tested, Nothing}
-use Rattle.router_core.specs.declared.seen.SeenTarget.{SeenTarget}
-use Rattle.router_core.specs.declared.seen.SeenVerdict.{SeenVerdict}
-use Rattle.router_core.specs.declared.seen.SeenVerdict.TheVariants.{Allowed, NoBus, DeniedBy, NotAllowed, Fault}
+use Rattle.router_requests.specs.Duties.{AreDuties}
+use Rattle.router_core.specs.Replaying.{IsReplayStep, passes, rules_for}
+use Rattle.router_requests.specs.Matching.{AreMatched, AreTargetsOf, AreSeenEntries, IsSeenResult, seen_target}
+use Rattle.router_requests.specs.declared.seen.SeenEntry.{SeenEntry}
+use Rattle.router_requests.specs.declared.seen.SeenResult.{SeenResult}
+use Rattle.router_requests.specs.declared.seen.SeenResult.TheVariants.{Entries, Tested, Nothing}
+use Rattle.router_requests.specs.declared.seen.SeenTarget.{SeenTarget}
+use Rattle.router_requests.specs.declared.seen.SeenVerdict.{SeenVerdict}
+use Rattle.router_requests.specs.declared.seen.SeenVerdict.TheVariants.{Allowed, NoBus, DeniedBy, NotAllowed, Fault}
 use Rattle.router_calls.specs.Accepted.{Given, Placed, Found, found_of, numbered_tree, IsEventPlaced, IsPlaced, ArePlaced, number_after, events_in}
 use Rattle.api_replies.specs.Reply.{Reply}
 use Rattle.api_replies.specs.declared.cause.Cause.TheVariants.{TooLargeTogether}
-use Rattle.router_calls.specs.Answer.{Answer, IsAnswer, HasPlaced, decided, published, publication, refusal, written, answer_at}
+use Rattle.resource_calls.specs.Decision.{refusal}
+use Rattle.router_calls.specs.Answer.{Answer, IsAnswer, HasPlaced, decided, published, publication, written, answer_at}
 use Rattle.router_calls.proofs.FormLemmas.{AreOf, WritesOf, request_form}
 use Rattle.duty_journal.specs.Batch.{NamesRules}
 use Rattle.duty_journal.specs.Named.{AreNamedByArns, IsNamedByArn}
@@ -113,9 +116,9 @@ others_names t action [] other of = tt
 others_names t action (batch.control c ∷ es) other of = (tt, others_names t action es other of.1)
 others_names t action (batch.accepted e ∷ es) other of = absurd (other of.0)
 others_names t action (batch.attempt duty outcome ∷ es) other of = absurd of.0
-others_names t action (batch.replay_started s ∷ es) other of = absurd of.0
+others_names t action (batch.replay_started s ∷ es) other of = (tt, others_names t action es other of.1)
 others_names t action (batch.replay_stepped s ∷ es) other of = absurd of.0
-others_names t action (batch.replay_cancelled name ∷ es) other of = absurd of.0
+others_names t action (batch.replay_cancelled name ∷ es) other of = (tt, others_names t action es other of.1)
 others_names t action (batch.messages_deleted queue through ∷ es) other of = (tt, others_names t action es other of.1)
 
 -- the batch of an answer, if it has one
@@ -159,3 +162,23 @@ by_action action t caller k time seen placed policy moment a are is has of same 
 pub answer_names : (t : Tables) (r : Request) (k : ℕ) (a : Answer) → AreNamedByArns t.set → IsAnswer t r k t.set a → BatchNames a.batch
 answer_names t r k a are h =
     by_action r.action t r.caller k h.time h.seen h.placed h.policy (moment_at t r.reading) a are h.is_seen h.has_placed (request_form h).writes h.answers
+
+-- the rules that a test leaves
+left_named : (test : Rule → Bool) (rules : List Rule) → All IsNamedByArn rules → All IsNamedByArn (filter test rules)
+left_named test [] all = all
+left_named test (rule ∷ rules) all = by (left_named test rules (All-tail IsNamedByArn rule rules all)) (test rule)
+  where
+    by : All IsNamedByArn (filter test rules) → (b : Bool) → All IsNamedByArn (cond b (rule ∷ filter test rules) (filter test rules))
+    by rest true = All-cons IsNamedByArn rule (filter test rules) (All-head IsNamedByArn rule rules all) rest
+    by rest false = rest
+
+-- the batch that makes the next step of the replays
+pub repeat_names : (t : Tables) (moment : ℕ) (b : Batch) → AreNamedByArns t.set → IsReplayStep t moment b → BatchNames (Some b)
+repeat_names t moment b are step =
+    let settings = step.next.row.settings in
+    let event : Tree = event_tree step.event (Some step.name) in
+    let rules : All IsNamedByArn (rules_for settings t.set) =
+    left_named (λ rule. passes settings.rules rule.name) (rules_of settings.bus t.set)
+    (rules_named (named (λ b. b.name) settings.bus t.set.buses) settings.bus t.set refl are) in
+    subst (λ x. BatchNames (Some x)) (sym step.is)
+    (duties_named event step.time step.targets step.duties (matched_named (rules_for settings t.set) event step.targets rules step.matched) step.owed, tt)

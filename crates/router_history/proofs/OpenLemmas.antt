@@ -5,7 +5,8 @@ use Rattle.std.proofs.lemmas.Bool.{true≢false}
 use Rattle.router_disk.specs.declared.disk_call.DiskCall.{DiskCall}
 use Rattle.router_disk.specs.Disk.{AreAnswers}
 use Rattle.turn_book.specs.Rule.{turns_by}
-use Rattle.router_core.specs.Batch.{Batch}
+use Rattle.router_core.specs.Admitted.{AreBatchesAdmitted}
+use Rattle.router_requests.specs.Batch.{Batch}
 use Rattle.router_core.specs.Tables.{Tables, first_tables, tables_after, after_batch}
 use Rattle.duty_journal.specs.declared.journal.Journal as journals
 use Rattle.duty_journal.specs.declared.recover.Found.{Found}
@@ -17,7 +18,7 @@ use Rattle.router_history.specs.declared.history.Ask.{Ask as CodeAsk}
 use Rattle.router_history.specs.declared.history.Turn.{Turn as CodeTurn}
 use Rattle.router_history.specs.declared.history.Written.{Written}
 use Rattle.router_history.specs.declared.book.Machine.{Machine}
-use Rattle.router_history.specs.History.{OpenedDisk, Turn, State, AreLawful, IsLegal, begun_with, batches_of, state_of, unacknowledged_of}
+use Rattle.router_history.specs.History.{OpenedDisk, Turn, State, IsLegal, begun_with, batches_of, state_of, unacknowledged_of}
 use Rattle.router_history.specs.Book.{turns_of, as_opened, opened_of, opening_on, IsBook, IsSoundMachine}
 use Rattle.router_history.specs.Home.{IsHeld, found_of, appended_of}
 use Rattle.router_history.proofs.SteadyLemmas.{found_disk, found_whole}
@@ -36,11 +37,11 @@ opened_unmade old new connection ask k written n none turns =
     ap (turns_by (λ (t : CodeTurn). t.pass) n)
     (turns ∙ ap (λ (ts : List CodeTurn). ts ++ record { pass = None; connection = connection; ask = ask; k = k; written = written } ∷ []) none)
 
-recordable_lawful : (t : Tables) (bs : List Batch) → AreRecordable t bs → AreLawful t bs
+recordable_lawful : (t : Tables) (bs : List Batch) → AreRecordable t bs → AreBatchesAdmitted t bs
 recordable_lawful t [] are = tt
 recordable_lawful t (b ∷ bs) (readable, admitted, more) = (admitted, recordable_lawful (after_batch b t) bs more)
 
-book_opened : (turns : List Turn) (found : List Batch) (disk : Option OpenedDisk) → turns ≡ opening_on found disk ∷ [] → AreLawful first_tables found
+book_opened : (turns : List Turn) (found : List Batch) (disk : Option OpenedDisk) → turns ≡ opening_on found disk ∷ [] → AreBatchesAdmitted first_tables found
     → (disk ≡ None → found ≡ []) → IsBook turns
 book_opened turns found disk is lawful none = record {
   found = found;

@@ -17,7 +17,7 @@ use Rattle.delivery_duties.specs.Retry.{Attempt, begun, too_long, verdict_of, de
 use Rattle.delivery_duties.specs.Duties.{Duties, IsOrdered, pending_row, replaced, failed, has_dead_letter_queue, added_one, added, marked_row, claimed}
 use Rattle.delivery_duties.specs.Duties.{unclaimed, settled_by, settled_row, attempt_of}
 use Rattle.delivery_duties.proofs.ClaimLemmas.{put_back}
-use Rattle.router_core.specs.Batch.{Entry, control, accepted, attempt, replay_started, replay_stepped, replay_cancelled, messages_deleted}
+use Rattle.router_requests.specs.Batch.{Entry, control, accepted, attempt, replay_started, replay_stepped, replay_cancelled, messages_deleted}
 use Rattle.router_core.specs.Tables.{Tables, duties_after, after_entry, after_entries}
 
 -- each row is under its own number

@@ -10,7 +10,8 @@ use Rattle.delivery_queues.specs.Queues.{Queue}
 use Rattle.delivery_duties.specs.declared.claim.Claim.{Claim as DutyClaim}
 use Rattle.delivery_duties.specs.Duties.{pending_row}
 use Rattle.rule_table.specs.RuleSet.{RuleSet}
-use Rattle.router_core.specs.Batch.{Batch}
+use Rattle.router_core.specs.Admitted.{IsAdmitted}
+use Rattle.router_requests.specs.Batch.{Batch}
 use Rattle.router_core.specs.Tables.{Tables, is_full, moment_at, after_batch}
 use Rattle.router_core.specs.Steps.{putting_back, IsErrandOf, IsRecordedAs, record_of, fate_after}
 use Rattle.router_core.specs.declared.errand.Errand.{Errand}
@@ -92,6 +93,7 @@ pub record IsRecording (seat : Seat) (held : Held) (had made : Outcome) (fate : 
   pub numbered : is_full old.tables ≡ false
   pub unbroken : (state_of (turns_of old)).broken ≡ false
   pub recorded : IsRecordedAs old.tables.duties.queues held.errand.target.endpoint had made
+  pub admitted : IsAdmitted old.tables (record_of moment held.errand.claim.number made)
   pub fate_by : (row : DutyRow) → pending_row held.errand.claim.number old.tables.duties ≡ Some row
       → fate ≡ fate_after old.tables.duties.queues moment row made
   pub tables : new.tables ≡ after_batch (record_of moment held.errand.claim.number made) old.tables
@@ -126,7 +128,7 @@ pub recorded_book : {seat : Seat} {held : Held} {had made : Outcome} {fate : Fat
 recorded_book {seat} {held} {had} {made} {fate} {moment} {old} {new} {turn} r =
     let b : Batch = record_of moment held.errand.claim.number made in
     let s = state_of (turns_of old) in
-    made_book r.adds (record_turn r)
+    made_book r.adds (record_turn r) r.admitted
     (r.tables ∙ ap (after_batch b) (sym r.adds.kept.tables)
     ∙ sym (ap (λ x. (after_ask (record turn { batch = x }) (records (attempt_of held made fate)) s).tables) r.adds.batch))
 
@@ -153,13 +155,13 @@ back_rests {seat} {c} {why} {batch} {old} {new} {turn} m =
 pub recording : (seat : Seat) (held shown : Held) (had made : Outcome) (fate : Fate) (moment : ℕ) (old new : Machine) (written : Batch) (k : ℕ) (set : RuleSet)
     → IsSoundMachine old → Holds seat.pass (turns_of old) (held_claim held) → moment ≡ moment_at old.tables held.reading → FitsClaim (held_claim held) had
     → is_full old.tables ≡ false → (state_of (turns_of old)).broken ≡ false → IsRecordedAs old.tables.duties.queues held.errand.target.endpoint had made
-    → written ≡ record_of moment held.errand.claim.number made
+    → IsAdmitted old.tables (record_of moment held.errand.claim.number made) → written ≡ record_of moment held.errand.claim.number made
     → ((row : DutyRow) → pending_row held.errand.claim.number old.tables.duties ≡ Some row → fate ≡ fate_after old.tables.duties.queues moment row made)
     → shown ≡ held → k ≡ set.count → set ≡ old.tables.set
     → turns_of new ≡ turns_of old ++ turn_by seat (records (attempt_of shown made fate)) k (Some written) ∷ []
     → new.tables ≡ after_batch written old.tables
     → IsRecording seat held had made fate moment old new (turn_by seat (records (attempt_of shown made fate)) k (Some written))
-recording seat held shown had made fate moment old new written k set h holds at fit numbered unbroken as_is batch fate_by shown_is k_is set_is turns tables = record {
+recording seat held shown had made fate moment old new written k set h holds at fit numbered unbroken as_is admitted batch fate_by shown_is k_is set_is turns tables = record {
   adds = record {
     kept = h;
     by = refl;
@@ -175,6 +177,7 @@ recording seat held shown had made fate moment old new written k set h holds at 
   numbered = numbered;
   unbroken = unbroken;
   recorded = as_is;
+  admitted = admitted;
   fate_by = fate_by;
   tables = tables ∙ ap (λ b. after_batch b old.tables) batch;
 }
@@ -207,7 +210,7 @@ pub put_back_book : {seat : Seat} {why : Why} {old new : Machine} {turn : Turn} 
     → Holds seat.pass (turns_of old) (held_claim held) → IsReason (state_of (turns_of old)) (held_claim held) why
     → new.tables ≡ putting_back held.errand.claim.number old.tables → IsSoundMachine new
 put_back_book held m holds reason tables =
-    made_book m (m.batch, own_claim (held_claim held) m holds, reason) (tables ∙ ap (putting_back held.errand.claim.number) (sym m.kept.tables))
+    made_book m (m.batch, own_claim (held_claim held) m holds, reason) tt (tables ∙ ap (putting_back held.errand.claim.number) (sym m.kept.tables))
 
 pub back : {seat : Seat} {why : Why} {old new : Machine} {turn : Turn} (held : Held) → IsMade seat (puts_back (held_claim held) why) None old new turn
     → IsPutBack seat (held_claim held) why (turns_of old) (turns_of new)

@@ -1,17 +1,18 @@
 -- A book after a step of its machine: `sound_alone` (no turn), `sound_same` (a turn without a batch), `sound_claimed`, `sound_appended` (a batch was appended),
--- `sound_lost` (its append failed); `decided_can_append`, `attempt_can_append`, that a batch may be appended; `holds_broken`, a claim once the book is broken.
+-- `sound_lost` (its append failed); `decided_can_append`, `attempt_can_append`, `step_can_append`, that a batch may be appended; `holds_broken`, a claim once the book is broken.
 use Rattle.std.proofs.Common.{◌≡◌, ℕ, true, false, List, [], ◌∷◌, Option, Some, None, Result, Ok, Err, refl, sym, ap, ◌∙◌, subst}
 use Rattle.std.specs.Prelude.{IfOk, IfErr, IfSome, IfNone}
 use Rattle.router_disk.specs.declared.disk_call.DiskCall.{DiskCall}
 use Rattle.api_replies.specs.declared.reply.Reply.{Reply as CodeReply}
 use Rattle.delivery_duties.specs.declared.outcome.Outcome.{Outcome}
 use Rattle.router_core.specs.Admitted.{IsAdmitted}
-use Rattle.router_core.specs.Batch.{Batch}
-use Rattle.router_core.specs.Request.{Request}
+use Rattle.router_requests.specs.Batch.{Batch}
+use Rattle.router_requests.specs.Request.{Request}
+use Rattle.router_core.specs.Replaying.{IsReplayStep}
 use Rattle.router_core.specs.Steps.{record_of}
-use Rattle.router_core.specs.View.{batch_of}
+use Rattle.router_requests.specs.View.{batch_of}
 use Rattle.router_core.specs.declared.ready.Ready.{Ready}
-use Rattle.router_calls.specs.Decided.{answer_of}
+use Rattle.router_calls.specs.View.{answer_of}
 use Rattle.duty_journal.specs.declared.fault.DiskFault.{DiskFault}
 use Rattle.duty_journal.specs.declared.home.Home.{Home}
 use Rattle.duty_journal.specs.Home.{CanAppend, HasAppended, is_broken_home}
@@ -22,7 +23,7 @@ use Rattle.router_history.specs.declared.book.Book.{Book}
 use Rattle.router_history.specs.declared.book.Machine.{Machine}
 use Rattle.router_history.specs.declared.book.Seat.{Seat}
 use Rattle.router_history.specs.declared.held.Held.{Held}
-use Rattle.router_history.specs.History.{Turn, State, Ask, opens, asked, claims, records, puts_back, breaks, after_ask, after_change, claims_of, state_of, unacknowledged_by, IsTurnFor}
+use Rattle.router_history.specs.History.{Turn, State, Ask, opens, asked, claims, records, puts_back, repeats, breaks, after_ask, after_change, claims_of, state_of, unacknowledged_by, IsTurnFor}
 use Rattle.router_history.specs.Held.{held_claim}
 use Rattle.router_history.specs.Book.{turns_of, IsBook, IsSoundMachine, Holds}
 use Rattle.router_history.specs.Home.{IsSoundBook}
@@ -30,7 +31,7 @@ use Rattle.router_history.specs.Acts.{IsIdle, IsFullAt, IsBrokenAt}
 use Rattle.router_history.specs.Answered.{IsAdded, IsClaimed, IsDecided}
 use Rattle.router_history.proofs.BatchLemmas.{after_one, legal_one}
 use Rattle.router_history.proofs.HomeLemmas.{broken_at, can_append, home_alone, home_same, home_appended, home_lost}
-use Rattle.router_history.proofs.NamingLemmas.{answer_names}
+use Rattle.router_history.proofs.NamingLemmas.{answer_names, repeat_names}
 
 -- an ask that does not break the book
 abbrev pub Still : Ask → Type 0
@@ -39,6 +40,7 @@ Still (asked request) = Unit {0}
 Still (claims c) = Unit {0}
 Still (records a) = Unit {0}
 Still (puts_back c why) = Unit {0}
+Still (repeats reading) = Unit {0}
 Still (breaks unsure) = ⊥
 
 -- it leaves no batch unacknowledged
@@ -48,6 +50,7 @@ still_acknowledged (asked request) still = refl
 still_acknowledged (claims c) still = refl
 still_acknowledged (records a) still = refl
 still_acknowledged (puts_back c why) still = refl
+still_acknowledged (repeats reading) still = refl
 still_acknowledged (breaks unsure) still = absurd still
 
 broken_written : (b : Option Batch) (s : State) → (after_change b s).broken ≡ s.broken
@@ -60,6 +63,7 @@ broken_still turn (asked request) s still is = broken_written turn.batch s
 broken_still turn (claims c) s still is = refl
 broken_still turn (records a) s still is = broken_written turn.batch s
 broken_still turn (puts_back c why) s still is = refl
+broken_still turn (repeats reading) s still is = broken_written turn.batch s
 broken_still turn (breaks unsure) s still is = absurd still
 
 broken_added : (old new : List Turn) (ask : Ask) (batch : Option Batch) → Still ask → IsBook old → IsBook new → IsAdded ask batch old new
@@ -132,6 +136,13 @@ module _ {D : Type 0} (calls : D → List DiskCall) (faults : D → ℕ) where
   attempt_can_append b batch moment duty outcome s admitted is =
       can_append calls faults (turns_of b.machine) b.machine.tables b.home (record_of moment duty outcome) s.kept.book s.kept.tables s.home
       (subst (λ (x : Batch). IsAdmitted b.machine.tables x) is admitted) (λ named. (tt, tt))
+
+  -- and the next step of the replays
+  pub step_can_append : (b : Book D) (moment : ℕ) (batch : Batch) → IsSoundBook calls faults b → IsAdmitted b.machine.tables batch
+      → IsReplayStep b.machine.tables moment batch → CanAppend b.home batch
+  step_can_append b moment batch s admitted step =
+      can_append calls faults (turns_of b.machine) b.machine.tables b.home batch s.kept.book s.kept.tables s.home admitted
+      (λ named. repeat_names b.machine.tables moment batch named step)
 
 -- the claim of a pass, once the book is broken
 pub holds_broken : (n : ℕ) (old new : List Turn) (unsure : List Batch) (c : Claim) → IsAdded (breaks unsure) None old new → Holds n old c → Holds n new c

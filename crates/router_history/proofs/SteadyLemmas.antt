@@ -8,15 +8,15 @@ use Rattle.rule_table.specs.Control.{Control, bus_created}
 use Rattle.rule_table.specs.RuleSet.{RuleSet, applied, applied_all}
 use Rattle.delivery_duties.specs.declared.duty.DutyRow.{DutyRow}
 use Rattle.delivery_duties.specs.Duties.{Duties, pending_row, IsNext}
-use Rattle.router_core.specs.Batch.{Batch, Entry, control, accepted, attempt, replay_started, replay_stepped, replay_cancelled, messages_deleted}
+use Rattle.router_requests.specs.Batch.{Batch, Entry, control, accepted, attempt, replay_started, replay_stepped, replay_cancelled, messages_deleted}
 use Rattle.router_core.specs.Tables.{Tables, first_tables, after_entry, after_entries, moment_at}
-use Rattle.router_core.specs.Request.{Request}
+use Rattle.router_requests.specs.Request.{Request}
 use Rattle.router_calls.proofs.FormLemmas.{request_form}
 use Rattle.courier_run.specs.Claim.{Claim}
-use Rattle.router_history.specs.History.{OpenedDisk, Ask, opens, asked, claims, records, puts_back, breaks, Turn, State, OpenClaim, controls_in, claim_of, claims_of, without_pass}
-use Rattle.router_history.specs.History.{last_version, after_change, after_ask, after_turn, after_all, after_written, state_after, state_of, begun, begun_with, with_claim, IsTurnFor, IsClaimBy, EndsClaim, AreTurnsFrom, IsLegal}
+use Rattle.router_history.specs.History.{OpenedDisk, Ask, opens, asked, claims, records, puts_back, repeats, breaks, Turn, State, OpenClaim, controls_in, claim_of, claims_of, without_pass}
+use Rattle.router_history.specs.History.{last_version, after_change, after_ask, after_turn, after_all, after_written, state_after, state_of, begun, begun_with, with_claim, IsTurnFor, IsClaimBy, IsRepeatBy, EndsClaim, AreTurnsFrom, IsLegal}
 use Rattle.router_history.proofs.PendingLemmas.{AreNumbered, entries_numbered, marked_numbered, marked_row_there, key_has}
-use Rattle.router_history.proofs.KeptLemmas.{marked_other, settled_other, written_keeps}
+use Rattle.router_history.proofs.KeptLemmas.{marked_other, settled_other, written_keeps, repeat_keeps}
 use Rattle.router_history.proofs.TurnLemmas.{open_written}
 
 -- a claim is open: its duty is pending, claimed and was due, and gives the claim, which was made by the moment of a turn at its reading now
@@ -212,6 +212,23 @@ steady_asked turn s request (passed, named, (reply, is), unbroken) h =
       version = version_written turn.batch s h.version;
     }
 
+-- a step of the replays claims nothing, and leaves the rows that are there
+steady_repeats : (turn : Turn) (s : State) (reading : ℕ) → IsRepeatBy s turn reading → IsSteady s → IsSteady (after_change turn.batch s)
+steady_repeats turn s reading is h =
+    let d = s.tables.duties in
+    let all : AreOpen (after_change turn.batch s).tables.duties (after_change turn.batch s).tables.moment s.open_claims =
+    every_kept d (after_change turn.batch s).tables.duties s.tables.moment (after_change turn.batch s).tables.moment s.open_claims (moment_written turn.batch s)
+    (λ c o. repeat_keeps turn.batch c.number s (moment_at s.tables reading) is.batch is.written is.step
+    (key_has (λ k. k ≤ d.created) c.number o.row d.pending h.numbered.known o.pending))
+    h.opened in
+    record {
+      numbered = numbered_written turn.batch s h.numbered;
+      opened = subst (λ (os : List OpenClaim). AreOpen (after_change turn.batch s).tables.duties (after_change turn.batch s).tables.moment os)
+          (sym (open_written turn.batch s)) all;
+      set = set_written turn.batch s h.set;
+      version = version_written turn.batch s h.version;
+    }
+
 -- the claim of a duty that is next is open
 claim_open : (s : State) (turn : Turn) (c : Claim) → IsSteady s → (is : IsClaimBy s turn c)
     → IsOpen (after_ask turn (claims c) s).tables.duties s.tables.moment c
@@ -278,11 +295,12 @@ steady_ask turn (puts_back c why) s (unwritten, ends, reason) h =
       set = h.set;
       version = h.version;
     }
+steady_ask turn (repeats reading) s is h = steady_repeats turn s reading is h
 steady_ask turn (breaks unsure) s is h = record { numbered = h.numbered; opened = h.opened; set = h.set; version = h.version }
 
 pub steady_after : (turns : List Turn) (s : State) → AreTurnsFrom s turns → IsSteady s → IsSteady (state_after turns s)
 steady_after [] s legal h = h
-steady_after (turn ∷ turns) s legal h = steady_after turns (after_turn turn s) legal.1 (steady_ask turn turn.ask s legal.0 h)
+steady_after (turn ∷ turns) s legal h = steady_after turns (after_turn turn s) legal.1 (steady_ask turn turn.ask s legal.0.made_for h)
 
 pub steady_begun : (disk : Option OpenedDisk) → IsSteady (begun_with disk first_tables)
 steady_begun disk = record {
@@ -318,12 +336,13 @@ disk_ask turn (asked request) s is = disk_written turn.batch s
 disk_ask turn (claims c) s is = refl
 disk_ask turn (records a) s is = disk_written turn.batch s
 disk_ask turn (puts_back c why) s is = refl
+disk_ask turn (repeats reading) s is = disk_written turn.batch s
 disk_ask turn (breaks unsure) s is = refl
 
 -- each book has the disk with which it was opened
 pub disk_after : (turns : List Turn) (s : State) → AreTurnsFrom s turns → (state_after turns s).disk ≡ s.disk
 disk_after [] s legal = refl
-disk_after (turn ∷ turns) s legal = disk_after turns (after_turn turn s) legal.1 ∙ disk_ask turn turn.ask s legal.0
+disk_after (turn ∷ turns) s legal = disk_after turns (after_turn turn s) legal.1 ∙ disk_ask turn turn.ask s legal.0.made_for
 
 broken_ask : (turn : Turn) (ask : Ask) (s : State) → IsTurnFor s turn ask → s.disk ≡ None → s.broken ≡ false → (after_ask turn ask s).broken ≡ false
 broken_ask turn (opens start found disk) s is none whole = absurd is
@@ -331,13 +350,14 @@ broken_ask turn (asked request) s is none whole = broken_written turn.batch s �
 broken_ask turn (claims c) s is none whole = whole
 broken_ask turn (records a) s is none whole = broken_written turn.batch s ∙ whole
 broken_ask turn (puts_back c why) s is none whole = whole
+broken_ask turn (repeats reading) s is none whole = broken_written turn.batch s ∙ whole
 broken_ask turn (breaks unsure) s is none whole = let some : false ≡ true = subst (λ (d : Option OpenedDisk). IsSome d) none is.journal in absurd (cc)
 
 -- without a journal no turn breaks the book
 pub whole_after : (turns : List Turn) (s : State) → AreTurnsFrom s turns → s.disk ≡ None → s.broken ≡ false → (state_after turns s).broken ≡ false
 whole_after [] s legal none whole = whole
 whole_after (turn ∷ turns) s legal none whole =
-    whole_after turns (after_turn turn s) legal.1 (disk_ask turn turn.ask s legal.0 ∙ none) (broken_ask turn turn.ask s legal.0 none whole)
+    whole_after turns (after_turn turn s) legal.1 (disk_ask turn turn.ask s legal.0.made_for ∙ none) (broken_ask turn turn.ask s legal.0.made_for none whole)
 
 pub found_disk : (found : List Batch) (s : State) → (after_all found s).disk ≡ s.disk
 found_disk [] s = refl

@@ -6,12 +6,12 @@ use Rattle.std.proofs.lemmas.List.{map-append}
 use Rattle.std.proofs.lemmas.List.Elements.{filter-append}
 use Rattle.std.specs.Prelude.{not, ◌==◌}
 use Rattle.turn_book.specs.Rule.{is_number}
-use Rattle.router_core.specs.Batch.{Batch}
+use Rattle.router_requests.specs.Batch.{Batch}
 use Rattle.courier_run.specs.Claim.{Claim}
 use Rattle.router_history.specs.declared.history.Turn.{Turn as CodeTurn}
 use Rattle.router_history.specs.Book.{turn_of}
 use Rattle.router_history.specs.Firsts.{firsts}
-use Rattle.router_history.specs.History.{Ask, opens, asked, claims, records, puts_back, breaks, Turn, State, OpenClaim, controls_in, begun_with, claims_of, without_pass}
+use Rattle.router_history.specs.History.{Ask, opens, asked, claims, records, puts_back, repeats, breaks, Turn, State, OpenClaim, controls_in, begun_with, claims_of, without_pass}
 use Rattle.router_history.specs.History.{last_version, with_claim, after_written, after_all, after_change, after_ask, after_turn, state_after, turns_by}
 use Rattle.router_history.specs.History.{IsTurnFor, AreTurnsFrom}
 
@@ -57,13 +57,14 @@ versions_asked turn (asked request) s is = versions_written turn.batch s
 versions_asked turn (claims c) s is = omega arith
 versions_asked turn (records a) s is = versions_written turn.batch s
 versions_asked turn (puts_back c why) s is = omega arith
+versions_asked turn (repeats reading) s is = versions_written turn.batch s
 versions_asked turn (breaks unsure) s is = omega arith
 
 -- turns only add configuration versions
 pub versions_grow : (turns : List Turn) (s : State) → AreTurnsFrom s turns → last_version s ≤ last_version (state_after turns s)
 versions_grow [] s legal = omega arith
 versions_grow (turn ∷ turns) s legal =
-    let first = versions_asked turn turn.ask s legal.0 in
+    let first = versions_asked turn turn.ask s legal.0.made_for in
     let rest = versions_grow turns (after_turn turn s) legal.1 in
     omega (arith, first, rest)
 
@@ -102,6 +103,7 @@ stay_asked n turn (asked request) s other is = ap (claims_of n) (open_written tu
 stay_asked n turn (claims c) s other is = with_other n turn.pass c s.open_claims other
 stay_asked n turn (records a) s other is = without_other n turn.pass s.open_claims other
 stay_asked n turn (puts_back c why) s other is = without_other n turn.pass s.open_claims other
+stay_asked n turn (repeats reading) s other is = ap (claims_of n) (open_written turn.batch s)
 stay_asked n turn (breaks unsure) s other is = refl
 
 -- the claims of a pass stay while other passes make turns
@@ -110,7 +112,7 @@ pub claims_stay : (n : ℕ) (turns : List Turn) (s : State) → AreTurnsFrom s t
 claims_stay n [] s legal others = refl
 claims_stay n (turn ∷ turns) s legal others =
     let both = first_other n turn turns others in
-    claims_stay n turns (after_turn turn s) legal.1 both.1 ∙ stay_asked n turn turn.ask s both.0 legal.0
+    claims_stay n turns (after_turn turn s) legal.1 both.1 ∙ stay_asked n turn turn.ask s both.0 legal.0.made_for
 
 none_asked : (n : ℕ) (turn : Turn) (ask : Ask) (s : State) → is_number turn.pass n ≡ false → claims_of n s.open_claims ≡ []
     → claims_of n (after_ask turn ask s).open_claims ≡ []
@@ -119,6 +121,7 @@ none_asked n turn (asked request) s other none = ap (claims_of n) (open_written 
 none_asked n turn (claims c) s other none = with_other n turn.pass c s.open_claims other ∙ none
 none_asked n turn (records a) s other none = without_other n turn.pass s.open_claims other ∙ none
 none_asked n turn (puts_back c why) s other none = without_other n turn.pass s.open_claims other ∙ none
+none_asked n turn (repeats reading) s other none = ap (claims_of n) (open_written turn.batch s) ∙ none
 none_asked n turn (breaks unsure) s other none = none
 
 -- turns of other passes, whatever they are, make no claim of this pass

@@ -1,17 +1,23 @@
 -- What a list of acts did to the history, the streams, the clock and the link.
-use Rattle.std.specs.Prelude.{◌≡◌, ◌≤◌, ◌⊎◌, ℕ, true, false, List, [], ◌∷◌, ◌++◌, Option, Some, All}
+use Rattle.std.specs.Prelude.{◌≡◌, ◌≢◌, ◌≤◌, ◌⊎◌, ℕ, true, false, List, [], ◌∷◌, ◌++◌, map, Option, Some, Result, All}
 use Rattle.router_disk.specs.Link.{Exchange}
 use Rattle.delivery_duties.specs.declared.outcome.Outcome.{Outcome}
 use Rattle.delivery_duties.specs.declared.outcome.Outcome.TheVariants.{Accepted, NoQueue}
 use Rattle.delivery_duties.specs.Duties.{NoneDue}
 use Rattle.router_core.specs.Tables.{is_full, moment_at}
 use Rattle.router_core.specs.Steps.{record_of}
+use Rattle.router_requests.specs.Batch.{Batch}
+use Rattle.router_core.specs.Replaying.{IsReplayStep}
+use Rattle.replay_run.specs.Replays.{running}
 use Rattle.courier_run.specs.Claim.{Claim, IsForQueue}
 use Rattle.courier_run.specs.Act.{Act as ActOf, reads, ticks, looks, makes, tries, writes, pieces_in, bytes_in}
 use Rattle.courier_run.specs.Link.{outside, Goes}
 use Rattle.courier_run.specs.Steps.{Attempt, Why, IsUnrecorded as IsUnrecordedOf, Steps as StepsOf}
 use Rattle.courier_run.specs.declared.turned.Turned.{Turned}
 use Rattle.courier_run.specs.declared.stepped.Stop.{Stop}
+use Rattle.step_run.specs.Act as step
+use Rattle.step_run.specs.Step.{Ran}
+use Rattle.step_run.specs.declared.fault.StepsFault.{StepsFault}
 use Rattle.router_history.specs.declared.book.Seat.{Seat}
 use Rattle.router_history.specs.History as history
 use Rattle.router_history.specs.History.{State, Turn, Placed, last_version, turns_by, state_after, state_of, after_turn}
@@ -72,6 +78,51 @@ IsUnrecorded = IsUnrecordedOf Claims Records PutsBack Breaks IsIdle IsFullAt IsB
 -- Shown by: session_tests tests.rt: a_delivery_has_the_reading_of_its_own_step.
 abbrev pub Steps : ℕ → List Act → Turned → Stop → Type 0
 Steps budget = StepsOf Claims Records PutsBack Breaks IsIdle IsFullAt IsBrokenAt budget
+
+-- The turn makes the next step of the replays, at this moment of the clock.
+-- Shown by: replays.
+abbrev pub Repeats : Placed → ℕ → Type 0
+Repeats p moment = p.turn.ask ≡ history.repeats moment
+
+-- The turn breaks the book: the next step of the replays, at this moment of the clock, could not be appended.
+-- Shown by: proofs alone.
+abbrev pub BreaksRepeat : Placed → ℕ → Type 0
+BreaksRepeat p moment = (b : Batch) × (p.turn.ask ≡ history.breaks (b ∷ [])) × IsReplayStep p.before.tables (moment_at p.before.tables moment) b
+
+-- No replay is running, whatever the moment is.
+-- Shown by: replays.
+abbrev pub IsNoneRunning : State → ℕ → Type 0
+IsNoneRunning s moment = running s.tables.replays ≡ []
+
+-- The number limit stops the step of a replay that is running.
+-- Shown by: proofs alone.
+abbrev pub IsRepeatFull : State → ℕ → Type 0
+IsRepeatFull s moment = (is_full s.tables ≡ true) × (running s.tables.replays ≢ [])
+
+-- The book is broken, and below the number limit a replay is running.
+-- Shown by: proofs alone.
+abbrev pub IsRepeatBroken : State → ℕ → Type 0
+IsRepeatBroken s moment = (s.broken ≡ true) × (is_full s.tables ≡ false) × (running s.tables.replays ≢ [])
+
+-- An act of a run of replay steps. Beside readings, looks and turns there is none.
+-- Shown by: replays.
+abbrev pub StepAct : Type 0
+StepAct = step.Act Placed State ⊥
+
+-- The same as an act of a session or a worker.
+-- Shown by: replays.
+abbrev pub act_of : StepAct → Act
+act_of (step.ticks reading) = ticks reading
+act_of (step.looks state) = looks state
+act_of (step.makes p) = makes p
+act_of (step.does none) = absurd none
+
+-- These acts are replay steps on the router's book within a budget, which returned this (`Ran` of step_run).
+-- Shown by: replays.
+pub record Repeating (budget : ℕ) (acts : List Act) (result : Result ℕ StepsFault) : Type 0 where
+  pub steps : List StepAct
+  pub are : acts ≡ map act_of steps
+  pub ran : Ran Repeats BreaksRepeat IsNoneRunning IsRepeatFull IsRepeatBroken budget steps result
 
 -- These turns came after a state, and among them are those that these acts of a pass made, in order. Other passes may have made turns
 -- before each. A look shows the state at its place. A turn goes by a configuration version that is at least the one that the pass had seen

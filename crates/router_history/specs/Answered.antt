@@ -1,29 +1,32 @@
 -- What one turn of a seat adds to a history.
-use Rattle.std.specs.Prelude.{◌≡◌, ◌⊎◌, ℕ, Bool, List, [], ◌∷◌, ◌++◌, Option, None, IfSome}
+use Rattle.std.specs.Prelude.{◌≡◌, ◌⊎◌, ℕ, Bool, List, [], ◌∷◌, ◌++◌, map, Option, None, IfSome}
 use Rattle.api_replies.specs.View.{reply_of}
 use Rattle.api_replies.specs.Reply.{Reply}
 use Rattle.api_replies.specs.Written.{IsServedStatus, reply_text}
 use Rattle.delivery_duties.specs.declared.outcome.Outcome.{Outcome}
 use Rattle.delivery_duties.specs.declared.outcome.Fate.{Fate}
-use Rattle.router_core.specs.Batch.{Batch}
-use Rattle.router_core.specs.Request.{Request}
+use Rattle.router_requests.specs.Batch.{Batch}
+use Rattle.router_requests.specs.Request.{Request}
 use Rattle.router_core.specs.Tables.{Tables}
 use Rattle.router_core.specs.Ready.{IsReadyFor}
 use Rattle.router_core.specs.declared.ready.Ready.{Ready}
 use Rattle.api_replies.specs.declared.reply.Reply.{Reply as CodeReply}
-use Rattle.router_calls.specs.Decided.{answer_of}
+use Rattle.router_calls.specs.View.{answer_of}
 use Rattle.router_calls.specs.Answer.{IsAnswer}
 use Rattle.courier_run.specs.Claim.{Claim}
 use Rattle.courier_run.specs.declared.book.BookFault.{BookFault}
 use Rattle.courier_run.specs.Act.{looks, makes}
 use Rattle.courier_run.specs.Book.{stop_of}
 use Rattle.courier_run.specs.Steps.{Why}
+use Rattle.step_run.specs.Step.{IsRefusal}
+use Rattle.step_run.specs.declared.fault.StepFault.{StepFault}
 use Rattle.router_history.specs.declared.book.Seat.{Seat}
 use Rattle.router_history.specs.declared.book.TurnReply.{TurnReply}
 use Rattle.router_history.specs.declared.book.TurnReply.TheVariants.{Rendered, Unrendered}
 use Rattle.router_history.specs.History.{Turn, Placed, Ask, breaks, state_of, IsLatest}
 use Rattle.router_history.specs.Book.{Holds}
 use Rattle.router_history.specs.Acts.{Act, Claims, Records, PutsBack, IsUnrecorded, Makes}
+use Rattle.router_history.specs.Acts.{StepAct, act_of, Repeats, BreaksRepeat, IsNoneRunning, IsRepeatFull, IsRepeatBroken}
 use Rattle.router_history.specs.Session.{Replies, Fails, IsFailed}
 
 -- The bytes of a turn's reply, made already or to be made.
@@ -103,6 +106,25 @@ pub record IsPutBack (seat : Seat) (c : Claim) (why : Why) (old new : List Turn)
   pub placed : Placed
   pub makes : Makes seat (makes placed ∷ []) old new
   pub puts_back : PutsBack placed c why
+
+-- One turn from a seat makes the next step of the replays, at this moment of the clock.
+-- Shown by: a_step_without_its_turn.edit.
+pub record IsRepeated (seat : Seat) (moment : ℕ) (old new : List Turn) : Type 0 where
+  pub placed : Placed
+  pub makes : Makes seat (makes placed ∷ []) old new
+  pub repeats : Repeats placed moment
+
+-- A look shows that no replay is running.
+-- Shown by: replays.
+abbrev pub HasNoRepeat : Seat → ℕ → List Turn → List Turn → Type 0
+HasNoRepeat seat moment old new = Makes seat (looks (state_of new) ∷ []) old new × IsNoneRunning (state_of new) moment
+
+-- No step of the replays is made at this moment of the clock, by the fault (`IsRefusal` of step_run).
+-- Shown by: proofs alone.
+pub record IsUnrepeated (seat : Seat) (moment : ℕ) (fault : StepFault) (old new : List Turn) : Type 0 where
+  pub acts : List StepAct
+  pub makes : Makes seat (map act_of acts) old new
+  pub refused : IsRefusal (λ p. BreaksRepeat p moment) (λ s. IsRepeatFull s moment) (λ s. IsRepeatBroken s moment) acts fault
 
 -- for private clauses: the batch that a request writes on the tables, if any, and the reply, by the tables' own rule set
 pub record IsDecided (t : Tables) (request : Request) (p : Option Ready × CodeReply) : Type 0 where

@@ -4,13 +4,13 @@ use Rattle.std.specs.Option.{option_map}
 use Rattle.router_disk.specs.declared.disk_call.DiskCall.{DiskCall}
 use Rattle.duty_journal.specs.Journal.{batches_in}
 use Rattle.router_core.specs.Tables.{first_tables}
-use Rattle.router_core.specs.Batch.{Batch}
-use Rattle.router_core.specs.View.{request_of, batch_of}
+use Rattle.router_requests.specs.Batch.{Batch}
+use Rattle.router_requests.specs.View.{request_of, batch_of}
 use Rattle.courier_run.specs.Steps as steps
 use Rattle.courier_run.specs.Claim.{Claim}
 use Rattle.router_history.specs.declared.opened_disk.OpenedDisk.{OpenedDisk}
 use Rattle.router_history.specs.declared.history.Ask.{Ask}
-use Rattle.router_history.specs.declared.history.Ask.TheVariants.{Opens, Asked, Claims, Records, PutsBack, Breaks}
+use Rattle.router_history.specs.declared.history.Ask.TheVariants.{Opens, Asked, Claims, Records, PutsBack, Repeats, Breaks}
 use Rattle.router_history.specs.declared.history.Why.{Why}
 use Rattle.router_history.specs.declared.history.Why.TheVariants.{Unsent, Limited, Unkept}
 use Rattle.router_history.specs.declared.history.Written.{Written}
@@ -49,6 +49,7 @@ ask_of (Asked request) = view.asked (request_of request.value)
 ask_of (Claims held) = view.claims (held_claim held.value)
 ask_of (Records held outcome fate) = view.records (record { claim = held_claim held.value; outcome = outcome; fate = fate })
 ask_of (PutsBack held why) = view.puts_back (held_claim held.value) (why_of why)
+ask_of (Repeats reading) = view.repeats reading
 ask_of (Breaks bs) = view.breaks (map batch_of (firsts bs.items))
 
 -- The batch that a turn wrote, if any.

@@ -11,13 +11,14 @@ use Rattle.delivery_duties.specs.declared.outcome.Outcome.{Outcome}
 use Rattle.delivery_duties.specs.declared.outcome.Outcome.TheVariants.{Accepted, Code, NoAnswer, NoQueue, TooOld}
 use Rattle.delivery_queues.specs.Queues.{Queue, has_queue}
 use Rattle.delivery_duties.specs.Duties.{IsNext, pending_row}
-use Rattle.router_core.specs.Request.{Request, IsOneTurn, IsEntitled}
-use Rattle.router_core.specs.Bounds.{IsBounded}
+use Rattle.router_requests.specs.Request.{Request, IsOneTurn, IsEntitled}
+use Rattle.router_requests.specs.Bounds.{IsBounded}
 use Rattle.api_replies.specs.Reply.{Reply}
-use Rattle.router_core.specs.Batch.{Entry, control, accepted, attempt, replay_started, replay_stepped, replay_cancelled, messages_deleted, Batch}
+use Rattle.router_requests.specs.Batch.{Entry, control, accepted, attempt, replay_started, replay_stepped, replay_cancelled, messages_deleted, Batch}
 use Rattle.router_core.specs.Tables.{Tables, first_tables, after_batch, is_full, moment_at}
-use Rattle.router_core.specs.Admitted.{IsAdmitted}
+use Rattle.router_core.specs.Admitted.{AreBatchesAdmitted, IsAdmitted}
 use Rattle.router_core.specs.Steps.{record_of, claiming, putting_back, fate_after}
+use Rattle.router_core.specs.Replaying.{IsReplayStep}
 use Rattle.router_calls.specs.Answer.{IsAnswer}
 use Rattle.courier_run.specs.Claim.{Claim, IsTooOld, NeedsSend, IsSuccess}
 use Rattle.courier_run.specs.Steps.{Attempt, Why, unsent, limited, unkept}
@@ -29,7 +30,7 @@ pub record OpenedDisk : Type 0 where
   pub calls : List DiskCall
 
 -- What a turn was made for: to open the book with these tables, on which these batches were found, and with this disk, if there is a journal; a request; a claim of the next due duty; the record of how a claimed duty's attempt ended; a claim that is
--- put back; to break the book (the mark), since appending these batches failed.
+-- put back; the next step of the replays, at this reading of the clock; to break the book (the mark), since appending these batches failed.
 -- Shown by: a_step_is_recorded_twice.edit.
 pub data Ask : Type 0 where
   opens : (start : Tables) (found : List Batch) (disk : Option OpenedDisk) → Ask
@@ -37,6 +38,7 @@ pub data Ask : Type 0 where
   claims : Claim → Ask
   records : Attempt → Ask
   puts_back : Claim → Why → Ask
+  repeats : (reading : ℕ) → Ask
   breaks : (unacknowledged : List Batch) → Ask
 
 -- The pass that made the turn (none opens the book), the connection that it served, if any, its ask, the configuration version by which it
@@ -140,6 +142,7 @@ after_ask turn (asked request) s = after_change turn.batch s
 after_ask turn (claims c) s = record s { tables = claiming c.number s.tables; open_claims = with_claim turn.pass c s.open_claims }
 after_ask turn (records a) s = record (after_change turn.batch s) { open_claims = without_pass turn.pass s.open_claims }
 after_ask turn (puts_back c why) s = record s { tables = putting_back c.number s.tables; open_claims = without_pass turn.pass s.open_claims }
+after_ask turn (repeats reading) s = after_change turn.batch s
 after_ask turn (breaks bs) s = record s { broken = true }
 
 -- The state after a turn.
@@ -244,17 +247,25 @@ pub record IsRecordBy (s : State) (turn : Turn) (a : Attempt) : Type 0 where
   pub fate : a.fate ≡ fate_after s.tables.duties.queues (moment_at s.tables a.claim.reading) row a.outcome
   pub written : turn.batch ≡ Some (record_of (moment_at s.tables a.claim.reading) a.claim.number a.outcome)
 
+-- The turn makes the next step of the replays (router_core `IsReplayStep`) by the latest configuration version, below the number limit, if the
+-- book is not broken: of the replays that are running, the one that started first repeats its next event. The step is all that it writes.
+-- Shown by: replays.
+pub record IsRepeatBy (s : State) (turn : Turn) (reading : ℕ) : Type 0 where
+  pub by : IsSome turn.pass
+  pub latest : IsLatest s turn
+  pub numbered : is_full s.tables ≡ false
+  pub unbroken : s.broken ≡ false
+  pub at : IsMoment reading
+  pub batch : Batch
+  pub step : IsReplayStep s.tables (moment_at s.tables reading) batch
+  pub written : turn.batch ≡ Some batch
+
 -- Why a claim may be put back: it needs a send, of which nothing was sent; the number limit is reached; or below it the book is broken.
 -- Shown by: put_back_without_a_reason.edit.
 abbrev pub IsReason : State → Claim → Why → Type 0
 IsReason s c unsent = NeedsSend c
 IsReason s c limited = is_full s.tables ≡ true
 IsReason s c unkept = (s.broken ≡ true) × (is_full s.tables ≡ false)
-
--- each batch is admitted after those before it
-abbrev pub AreLawful : Tables → List Batch → Type 0
-AreLawful t [] = Unit {0}
-AreLawful t (b ∷ bs) = IsAdmitted t b × AreLawful (after_batch b t) bs
 
 -- The turn breaks the book, which has a journal and is not broken yet, below the number limit. The batches whose append failed are admitted, so whatever the journal has
 -- of them can be opened. The turn writes nothing.
@@ -266,7 +277,7 @@ pub record IsBreak (s : State) (turn : Turn) (unacknowledged : List Batch) : Typ
   pub journal : IsSome s.disk
   pub unbroken : s.broken ≡ false
   pub numbered : is_full s.tables ≡ false
-  pub lawful : AreLawful s.tables unacknowledged
+  pub lawful : AreBatchesAdmitted s.tables unacknowledged
 
 -- A turn that may be made in a state, by what it was made for. Only the first turn of a history opens. A turn for a request names a
 -- connection, and writes nothing on a broken book.
@@ -278,6 +289,7 @@ IsTurnFor s turn (asked request) =
 IsTurnFor s turn (claims c) = IsClaimBy s turn c
 IsTurnFor s turn (records a) = IsRecordBy s turn a
 IsTurnFor s turn (puts_back c why) = (turn.batch ≡ None) × EndsClaim s turn c × IsReason s c why
+IsTurnFor s turn (repeats reading) = IsRepeatBy s turn reading
 IsTurnFor s turn (breaks bs) = IsBreak s turn bs
 
 -- The turn breaks the book.
@@ -291,10 +303,17 @@ abbrev pub HasMark : List Turn → Type 0
 HasMark [] = ⊥
 HasMark (turn ∷ turns) = IsMark turn ⊎ HasMark turns
 
--- A turn that may be made in a state.
+-- The batch that is written, if there is one, is admitted by these tables.
+-- Shown by: law batches_are_admitted.
+abbrev pub IsWriteAdmitted : Tables → Option Batch → Type 0
+IsWriteAdmitted t None = Unit {0}
+IsWriteAdmitted t (Some b) = IsAdmitted t b
+
+-- A turn that may be made in a state, by what it was made for. What it writes is admitted there.
 -- Shown by: as IsTurnFor.
-abbrev pub IsTurnOf : State → Turn → Type 0
-IsTurnOf s turn = IsTurnFor s turn turn.ask
+pub record IsTurnOf (s : State) (turn : Turn) : Type 0 where
+  pub made_for : IsTurnFor s turn turn.ask
+  pub admitted : IsWriteAdmitted s.tables turn.batch
 
 -- The turn opens a book: no pass made it, it goes by the version of its tables, and it writes nothing. Without a journal nothing was found.
 -- Shown by: proofs alone.
@@ -303,7 +322,7 @@ pub record IsOpening (turn : Turn) : Type 0 where
   pub found : List Batch
   pub disk : Option OpenedDisk
   pub ask : turn.ask ≡ opens start found disk
-  pub lawful : AreLawful start found
+  pub lawful : AreBatchesAdmitted start found
   pub none_found : disk ≡ None → found ≡ []
   pub no_pass : turn.pass ≡ None
   pub no_connection : turn.connection ≡ None
@@ -347,6 +366,7 @@ found_by (asked request) = []
 found_by (claims c) = []
 found_by (records a) = []
 found_by (puts_back c why) = []
+found_by (repeats reading) = []
 found_by (breaks bs) = []
 
 -- The batches that turns wrote, in order. Those that a turn found when it opened the book come in its place.
@@ -363,6 +383,7 @@ unacknowledged_by (asked request) = []
 unacknowledged_by (claims c) = []
 unacknowledged_by (records a) = []
 unacknowledged_by (puts_back c why) = []
+unacknowledged_by (repeats reading) = []
 unacknowledged_by (breaks bs) = bs
 
 abbrev pub unacknowledged_of : List Turn → List Batch

@@ -1,7 +1,7 @@
 -- A session as one list of acts.
-use Rattle.std.specs.Prelude.{◌≡◌, ◌≢◌, ◌+◌, ◌==◌, ◌||◌, ◌⊎◌, ℕ, Bool, true, false, List, [], ◌∷◌, ◌++◌, None}
-use Rattle.router_core.specs.Batch.{Batch}
-use Rattle.router_core.specs.Request.{deliver_due, Request}
+use Rattle.std.specs.Prelude.{◌≡◌, ◌≢◌, ◌+◌, ◌==◌, ◌||◌, ◌⊎◌, ℕ, Bool, true, false, List, [], ◌∷◌, ◌++◌, None, Result}
+use Rattle.router_requests.specs.Batch.{Batch}
+use Rattle.router_requests.specs.Request.{deliver_due, step_replays, Request}
 use Rattle.api_replies.specs.declared.cause.Cause.{Cause}
 use Rattle.api_replies.specs.Reply.{Reply, refused as refusal_of, not_post, no_memory}
 use Rattle.api_replies.specs.Written.{reply_text, reply_head}
@@ -17,14 +17,15 @@ use Rattle.courier_run.specs.Claim.{moment_of}
 use Rattle.courier_run.specs.Act.{reads, ticks, looks, makes, writes}
 use Rattle.courier_run.specs.declared.turned.Turned.{Turned}
 use Rattle.courier_run.specs.declared.stepped.Stop.{Stop}
+use Rattle.step_run.specs.declared.fault.StepsFault.{StepsFault}
 use Rattle.message_streams.specs.declared.farewell.SessionEnd.{SessionEnd}
 use Rattle.message_streams.specs.declared.farewell.SessionEnd.TheVariants as ends
 use Rattle.message_streams.specs.Incoming.{IsPiece, IsWhole}
 use Rattle.message_streams.specs.Farewell.{refusal_reply}
-use Rattle.message_streams.specs.Reply.{journal_failed, steps_reply}
+use Rattle.message_streams.specs.Reply.{journal_failed, steps_reply, replays_reply}
 use Rattle.router_history.specs.declared.book.Seat.{Seat}
 use Rattle.router_history.specs.History.{State, Placed, asked, breaks, last_version, IsAnsweredBy, WouldWrite}
-use Rattle.router_history.specs.Acts.{Act, Steps, World, Does}
+use Rattle.router_history.specs.Acts.{Act, Steps, Repeating, World, Does}
 
 -- The turn answers the request with this reply (`IsAnsweredBy`).
 -- Shown by: first-run.
@@ -42,7 +43,7 @@ abbrev pub IsFailed : State → Request → Type 0
 IsFailed s request = (s.broken ≡ true) × ((b : Batch) × WouldWrite s (last_version s) request b)
 
 -- What is done for a message, with its reply. A message that is no POST, one that is refused, and one for which memory ran out take a
--- reading; so does a request, and then its turn, or the steps of a DeliverDue. If memory runs out for the reply to a request that changed
+-- reading; so does a request, and then its turn, or the steps of a DeliverDue or of a StepReplays. If memory runs out for the reply to a request that changed
 -- nothing, the reply says so. Out of memory is allowed for any POST. A request whose batch cannot be appended breaks the book; one that would
 -- write on a broken book is not carried out after a look.
 -- Shown by: first-run; refusals; get-is-refused.
@@ -61,6 +62,9 @@ pub data Answers (m : Message) : List Act → Reply → Type 0 where
   stepped : (reading : ℕ) (request : Request) (budget : ℕ) (acts : List Act) (turned : Turned) (stop : Stop) → is_post m.method ≡ true
       → IsAsked m (moment_of reading) request → request.action ≡ deliver_due budget → Steps budget acts turned stop
       → Answers m (ticks reading ∷ acts) (steps_reply turned stop)
+  repeated : (reading : ℕ) (request : Request) (budget : ℕ) (acts : List Act) (result : Result ℕ StepsFault) → is_post m.method ≡ true
+      → IsAsked m (moment_of reading) request → request.action ≡ step_replays budget → Repeating budget acts result
+      → Answers m (ticks reading ∷ acts) (replays_reply result)
 
 -- What is written for a reply: all of it, or `reply_head` for a HEAD.
 -- Shown by: head-request.

@@ -6,8 +6,8 @@ use crate::held::Held;
 use crate::opened_disk::OpenedDisk;
 use delivery_duties::{Fate, Outcome};
 use http_server::Log;
-use router_core::{Batch, Request};
 use router_disk::Pieces;
+use router_requests::{Batch, Request};
 use std::snapshot::Snapshot;
 
 /// What a turn was made for.
@@ -28,6 +28,10 @@ pub enum Ask {
     PutsBack {
         held: Snapshot<Held>,
         why: Why,
+    },
+    /// To make the next step of the replays, at this reading of the clock.
+    Repeats {
+        reading: u64,
     },
     /// To break the book: appending these batches failed.
     Breaks {

@@ -8,6 +8,7 @@ mod held;
 mod history;
 mod machine;
 mod opened_disk;
+mod repeats;
 mod turns;
 mod visit;
 

@@ -3,8 +3,8 @@ ghost use Rattle.std.specs.Prelude.{◌≡◌, ◌∷◌, [], ℕ, Bool, List, S
 ghost use Rattle.json_text.specs.Moment.{IsMoment};
 ghost use Rattle.router_disk.specs.Disk.{AreAnswers};
 ghost use Rattle.turn_book.specs.Rule.{turns_by};
-ghost use Rattle.router_core.specs.View.{action_of, request_of};
-ghost use Rattle.router_core.specs.Matching.{HasValue, IsSeen};
+ghost use Rattle.router_requests.specs.View.{action_of, request_of};
+ghost use Rattle.router_requests.specs.Matching.{HasValue, IsSeen};
 ghost use Rattle.router_core.specs.Tables.{first_tables, is_full};
 ghost use Rattle.courier_run.specs.Claim.{FitsClaim};
 ghost use Rattle.courier_run.specs.Book.{HasCause};
@@ -25,8 +25,9 @@ use delivery_duties::{Fate, Outcome};
 use duty_journal::{DiskFault, Found, Home, Journal};
 use json_text::NoMemory;
 use message_streams::reply_bytes;
-use router_core::{Ready, Released, Reply, Request, Seen, Tables};
+use router_core::{Ready, Released, Reply, Tables};
 use router_disk::Disk;
+use router_requests::{Request, Seen};
 use std::alloc::Global;
 
 impl<D: Disk> Book<D> {

@@ -1,10 +1,10 @@
 -- A request that a message asks for, if one turn answers it, is one that the book may be asked: `asked_askable`.
 use Rattle.std.proofs.Common.{ℕ, sym, subst}
 use Rattle.json_text.specs.Moment.{IsMoment}
-use Rattle.router_core.specs.Request.{IsEntitled, IsOneTurn}
-use Rattle.router_core.specs.Bounds.{IsBounded}
-use Rattle.router_core.specs.declared.request.Request.{Request}
-use Rattle.router_core.specs.View.{action_of, request_of}
+use Rattle.router_requests.specs.Request.{IsEntitled, IsOneTurn}
+use Rattle.router_requests.specs.Bounds.{IsBounded}
+use Rattle.router_requests.specs.declared.request.Request.{Request}
+use Rattle.router_requests.specs.View.{action_of, request_of}
 use Rattle.api_messages.specs.declared.message.Message.{Message}
 use Rattle.api_wire.specs.Call.{IsAsked}
 use Rattle.router_history.specs.History.{IsAskable}

@@ -1,8 +1,8 @@
 -- From the hall's clauses to what a pass knows of the history. Other files cite `seen_of`, `learned`, `IsTaken`, `taken`, `answered_later`, `claimed_later`, `recorded_later`, `unrecorded_later`, `unanswered_later`,
--- `back_later`, `rests_there`, `holds_there`, `rests_more`, `looked`, `extends`, `extends_none`, `sees_more`, `sees_same`, `same_again`, `same_seat`, `sees_again`, `sees_none`, `pass_of`,
--- `reply_ok`, `reply_err`.
-use Rattle.std.proofs.Common.{◌≡◌, inl, inr, ℕ, true, false, cond, List, [], ◌∷◌, ◌++◌, map, Option, Some, Result, Ok, Err, refl, sym, ap, ◌∙◌, subst, append-nil, append_assoc}
-use Rattle.std.specs.Prelude.{Bool, IfOk, MatchResult}
+-- `back_later`, `repeated_later`, `no_repeat_later`, `unrepeated_later`, `rests_there`, `holds_there`, `rests_more`, `looked`, `extends`, `extends_none`, `sees_more`, `sees_same`,
+-- `same_again`, `same_seat`, `sees_again`, `sees_none`, `pass_of`, `reply_ok`, `reply_err`, `step_ok`, `step_err`, `step_each`.
+use Rattle.std.proofs.Common.{◌≡◌, inl, inr, ℕ, true, false, cond, List, [], ◌∷◌, ◌++◌, map, Option, Some, None, Result, Ok, Err, is_some, refl, sym, ap, ◌∙◌, subst, append-nil, append_assoc}
+use Rattle.std.specs.Prelude.{Bool, IfOk, IfErr, IfSome, IfNone, MatchBool, MatchResult}
 use Rattle.std.proofs.lemmas.Bool.{eq-eqb}
 use Rattle.std.proofs.lemmas.List.{map-append, append_cancel_left}
 use Rattle.std.proofs.lemmas.List.Elements.{filter-append, All-weaker, All-nil}
@@ -11,11 +11,12 @@ use Rattle.turn_book.specs.Rule as book
 use Rattle.turn_book.specs.Passes.{view, Extends, IsSamePass}
 use Rattle.delivery_duties.specs.declared.outcome.Outcome.{Outcome}
 use Rattle.delivery_duties.specs.declared.outcome.Fate.{Fate}
-use Rattle.router_core.specs.Request.{Request}
+use Rattle.router_requests.specs.Request.{Request}
 use Rattle.courier_run.specs.declared.book.BookFault.{BookFault}
 use Rattle.courier_run.specs.Claim.{Claim}
 use Rattle.courier_run.specs.Act.{looks, makes}
 use Rattle.courier_run.specs.Steps.{Why}
+use Rattle.step_run.specs.declared.fault.StepFault.{StepFault}
 use Rattle.router_history.specs.declared.book.Machine.{Machine}
 use Rattle.router_history.specs.declared.book.Seat.{Seat}
 use Rattle.router_history.specs.declared.book.TurnReply.{TurnReply}
@@ -23,8 +24,8 @@ use Rattle.router_history.specs.declared.history.Turn.{Turn}
 use Rattle.router_history.specs.History.{State, claims_of, state_of, turns_by}
 use Rattle.router_history.specs.History as history
 use Rattle.router_history.specs.Book.{recorded_in, turns_of, turn_of, IsBook, IsSoundMachine, HasGrown, Rests, Holds}
-use Rattle.router_history.specs.Acts.{Act, Makes, IsNamed}
-use Rattle.router_history.specs.Answered.{IsAnswered, IsUnanswered, IsClaimed, IsRecorded, IsUnrecordedBy, IsPutBack}
+use Rattle.router_history.specs.Acts.{Act, act_of, Makes, IsNamed, IsNoneRunning}
+use Rattle.router_history.specs.Answered.{IsAnswered, IsUnanswered, IsClaimed, IsRecorded, IsUnrecordedBy, IsPutBack, IsRepeated, HasNoRepeat, IsUnrepeated}
 use Rattle.router_history.specs.Session.{IsFailed}
 use Rattle.router_sessions.specs.Desk.{Known, seen_by, turns_seen, number_of, seat_of, SeesMore}
 use Rattle.router_history.proofs.TurnLemmas.{none_of_mine, claims_stay}
@@ -128,6 +129,22 @@ pub back_later : {V : Type 0} {seat : Seat} {old new : Known V} {b b_new : Machi
 back_later {V} {seat} {old} {new} {b} {b_new} c why t a =
     record { placed = a.placed; makes = makes_later seat (makes a.placed ∷ []) old new b b_new t a.makes; puts_back = a.puts_back }
 
+pub repeated_later : {V : Type 0} {seat : Seat} {old new : Known V} {b b_new : Machine} (moment : ℕ) → IsTaken seat old new b b_new
+    → IsRepeated seat moment (turns_of b) (turns_of b_new) → IsRepeated seat moment (turns_seen old) (turns_seen new)
+repeated_later {V} {seat} {old} {new} {b} {b_new} moment t a =
+    record { placed = a.placed; makes = makes_later seat (makes a.placed ∷ []) old new b b_new t a.makes; repeats = a.repeats }
+
+pub no_repeat_later : {V : Type 0} {seat : Seat} {old new : Known V} {b b_new : Machine} (moment : ℕ) → IsTaken seat old new b b_new
+    → HasNoRepeat seat moment (turns_of b) (turns_of b_new) → HasNoRepeat seat moment (turns_seen old) (turns_seen new)
+no_repeat_later {V} {seat} {old} {new} {b} {b_new} moment t (m, none) =
+    subst (λ (ts : List history.Turn). Makes seat (looks (state_of ts) ∷ []) (turns_seen old) (turns_seen new) × IsNoneRunning (state_of ts) moment) (sym t.seen)
+    (makes_later seat (looks (state_of (turns_of b_new)) ∷ []) old new b b_new t m, none)
+
+pub unrepeated_later : {V : Type 0} {seat : Seat} {old new : Known V} {b b_new : Machine} (moment : ℕ) (fault : StepFault) → IsTaken seat old new b b_new
+    → IsUnrepeated seat moment fault (turns_of b) (turns_of b_new) → IsUnrepeated seat moment fault (turns_seen old) (turns_seen new)
+unrepeated_later {V} {seat} {old} {new} {b} {b_new} moment fault t a =
+    record { acts = a.acts; makes = makes_later seat (map act_of a.acts) old new b b_new t a.makes; refused = a.refused }
+
 -- turns of others make no claim of this pass
 pub rests_more : (seat : Seat) (old new : List history.Turn) → Makes seat [] old new → Rests seat.pass old → Rests seat.pass new
 rests_more seat old new m rests =
@@ -225,3 +242,23 @@ pub reply_err : {A B E : Type 0} (f : A → B) (made : Result A E) (result : Res
     → MatchResult made (λ m. result ≡ Ok (f m)) (λ d. result ≡ Err d) → result ≡ Err e → made ≡ Err e
 reply_err f (Ok m) result e is failed = absurd (cc (is, failed))
 reply_err f (Err d) result e is failed = ap Err (cc (is, failed))
+
+-- whether a step was made, once what it released is freed
+pub step_ok : {A E : Type 0} (stepped : Result (Option A) E) (result : Result Bool E) (P Q : Type 0)
+    → MatchResult stepped (λ found. result ≡ Ok (is_some found)) (λ e. result ≡ Err e) → IfOk stepped (λ found. IfSome found (λ _. P))
+    → IfOk stepped (λ found. IfNone found Q) → IfOk result (λ made. MatchBool made P Q)
+step_ok (Ok (Some a)) result P Q is p q = subst (λ r. IfOk r (λ made. MatchBool made P Q)) (sym is) p
+step_ok (Ok None) result P Q is p q = subst (λ r. IfOk r (λ made. MatchBool made P Q)) (sym is) q
+step_ok (Err e) result P Q is p q = subst (λ r. IfOk r (λ made. MatchBool made P Q)) (sym is) tt
+
+pub step_err : {A E : Type 0} (stepped : Result (Option A) E) (result : Result Bool E) (R : E → Type 0)
+    → MatchResult stepped (λ found. result ≡ Ok (is_some found)) (λ e. result ≡ Err e) → IfErr stepped R → IfErr result R
+step_err (Ok found) result R is r = subst (λ x. IfErr x R) (sym is) tt
+step_err (Err e) result R is r = subst (λ x. IfErr x R) (sym is) r
+
+-- what holds in each case holds
+pub step_each : {A E : Type 0} (stepped : Result (Option A) E) (P Q : Type 0) (R : E → Type 0) (X : Type 0) → IfOk stepped (λ found. IfSome found (λ _. P))
+    → IfOk stepped (λ found. IfNone found Q) → IfErr stepped R → (P → X) → (Q → X) → ((e : E) → R e → X) → X
+step_each (Ok (Some a)) P Q R X p q r one none refused = one p
+step_each (Ok None) P Q R X p q r one none refused = none q
+step_each (Err e) P Q R X p q r one none refused = refused e r

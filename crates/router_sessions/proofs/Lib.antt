@@ -1,4 +1,4 @@
--- The order: the desk (`DeskLemmas`), deliveries (`DidLemmas`, `SeatedLemmas`), the world around (`DoesLemmas`), messages (`ReplyLemmas`, `BoundLemmas`), sessions
+-- The order: the desk (`DeskLemmas`), deliveries (`DidLemmas`, `SeatedLemmas`), the world around (`DoesLemmas`), messages (`ReplyLemmas`, `RepeatLemmas`, `BoundLemmas`), sessions
 -- (`SessionLemmas`), and what a connection that ended owes (`OwesLemmas`). What holds of turns and acts is in router_history.
 -- A law in a trait that needs lemmas cannot be stated in specs: `Did` says what was done beside all that was done before, so its laws are `append-nil` and
 -- `append_assoc`.
@@ -10,6 +10,7 @@ pub mod DeskLemmas
 pub mod DidLemmas
 pub mod DoesLemmas
 pub mod OwesLemmas
+pub mod RepeatLemmas
 pub mod ReplyLemmas
 pub mod SeatedLemmas
 pub mod SessionLemmas

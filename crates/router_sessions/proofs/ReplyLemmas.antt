@@ -1,13 +1,13 @@
--- One message, from what was written for it. Other files cite `unposted_answer`, `memory_answer`, `fault_answer`, `turn_answer`, `failed_answer`, `delivery_answer`,
--- `undelivered`, `was_delivered`, `answered_rests` and `failed_rests`.
-use Rattle.std.proofs.Common.{◌≡◌, ℕ, inl, inr, Bool, false, List, [], ◌∷◌, Result, Ok, Err, refl, sym, ap, ◌∙◌, subst}
+-- One message, from what was written for it. Other files cite `unposted_answer`, `fault_answer`, `request_answer`, `replied_as`, `turn_replied`, `failed_replied`,
+-- `unreplied`, `delivery_answers`, `was_delivered`, `answered_rests`, `failed_rests`, `one_rests`, `look_rests` and `broken_claims`.
+use Rattle.std.proofs.Common.{◌≡◌, ◌⊎◌, ℕ, inl, inr, Bool, false, List, [], ◌∷◌, Result, Ok, Err, refl, sym, ap, ◌∙◌, subst}
 use Rattle.std.specs.Prelude.{IfOk, OnErr}
 use Rattle.json_text.specs.declared.base.NoMemory.{NoMemory}
 use Rattle.router_disk.specs.Sink.{AddsBytes}
 use Rattle.router_disk.specs.Link.{Exchange}
 use Rattle.router_disk.specs.declared.fault.Failed.{Failed}
-use Rattle.router_core.specs.Batch.{Batch}
-use Rattle.router_core.specs.Request.{deliver_due, Request}
+use Rattle.router_requests.specs.Batch.{Batch}
+use Rattle.router_requests.specs.Request.{deliver_due, Request}
 use Rattle.api_replies.specs.Reply.{Reply, refused as refusal_of, no_memory, not_post}
 use Rattle.api_replies.specs.Written.{reply_text}
 use Rattle.api_messages.specs.declared.message.Message.{Message}
@@ -31,13 +31,13 @@ use Rattle.router_history.specs.Answered.{turn_text, IsUnrendered, IsAnswered, I
 use Rattle.message_streams.specs.Reply.{text_or, IsFaultText, journal_failed, steps_reply}
 use Rattle.router_history.specs.Session.{Answers, unposted, refused, out_of_memory, served, unrendered, failed, failed_before, stepped, sent_text}
 use Rattle.router_sessions.specs.Delivery.{Delivers}
-use Rattle.router_sessions.specs.Reply.{DoesAndWrites, IsDelivery, HasAnswered, HasDelivered}
+use Rattle.router_sessions.specs.Reply.{DoesAndWrites, IsAnswerTo, IsDelivery, HasAnswered, HasReplied}
 use Rattle.router_history.proofs.TurnLemmas.{none_append, none_of_mine, open_written}
-use Rattle.router_history.proofs.ActLemmas.{makes_none, state_longer, state_here}
-use Rattle.router_sessions.proofs.DoesLemmas.{does_append, does_acts, does_made, writes_then, after_acts, steps_quiet}
+use Rattle.router_history.proofs.ActLemmas.{state_longer, state_here}
+use Rattle.router_sessions.proofs.DoesLemmas.{does_acts, does_made, writes_then, after_acts, steps_quiet}
 
 -- the text that is sent to a POST
-post_text : (m : Message) (reply : Reply) (close : Bool) → m.method ≡ Post → reply_text reply close ≡ sent_text m.method reply close
+pub post_text : (m : Message) (reply : Reply) (close : Bool) → m.method ≡ Post → reply_text reply close ≡ sent_text m.method reply close
 post_text m reply close post = ap (λ (x : Method). sent_text x reply close) (sym post)
 
 -- what a message that is no POST is answered
@@ -67,19 +67,6 @@ post_answer seat m close old turns gave written written_new readings answered fa
       (subst (λ (text : List ℕ). AddsBytes written written_new result text) (post_text m reply close post) wrote);
 }
 
--- out of memory, without a turn; others may have made some
-pub memory_answer : (seat : Seat) (m : Message) (close : Bool) (old : World) (turns turns_new : List Turn) (gave : List (List ℕ)) (written written_new readings : List ℕ)
-    (answered : List Exchange) (faults reading : ℕ) (result : Result (Unit {0}) Failed) → m.method ≡ Post → IsBook old.turns → IsBook turns → IsBook turns_new
-    → Does seat (ticks reading ∷ []) old (world turns gave written readings answered faults) → Makes seat [] turns turns_new
-    → AddsBytes written written_new result (reply_text no_memory close)
-    → HasAnswered seat m close old (world turns_new gave written_new readings answered faults) result
-memory_answer seat m close old turns turns_new gave written written_new readings answered faults reading result post h h_mid h_new done made wrote =
-    post_answer seat m close old turns_new gave written written_new readings answered faults result (ticks reading ∷ []) no_memory post h h_new
-    (out_of_memory reading (ap is_post post))
-    (does_append seat (ticks reading ∷ []) [] old (world turns gave written readings answered faults) (world turns_new gave written readings answered faults) h h_mid done
-    (does_made seat [] turns turns_new gave written readings answered faults refl refl refl refl made))
-    wrote
-
 -- the message is refused, or out of memory while it was read
 pub fault_answer : (seat : Seat) (m : Message) (close : Bool) (old : World) (turns : List Turn) (gave : List (List ℕ)) (written written_new readings : List ℕ)
     (answered : List Exchange) (faults reading : ℕ) (result : Result (Unit {0}) Failed) (fault : CallFault) (bytes : Result (List ℕ) NoMemory) → m.method ≡ Post
@@ -87,100 +74,121 @@ pub fault_answer : (seat : Seat) (m : Message) (close : Bool) (old : World) (tur
     → IsFault m fault → IfOk bytes (λ b. IsFaultText fault close b) → AddsBytes written written_new result (text_or bytes close)
     → HasAnswered seat m close old (world turns gave written_new readings answered faults) result
 fault_answer seat m close old turns gave written written_new readings answered faults reading result fault (Err none) post h h_new done is ok wrote =
-    memory_answer seat m close old turns turns gave written written_new readings answered faults reading result post h h_new h_new done (makes_none seat turns) wrote
+    post_answer seat m close old turns gave written written_new readings answered faults result (ticks reading ∷ []) no_memory post h h_new
+    (out_of_memory reading (ap is_post post)) done wrote
 fault_answer seat m close old turns gave written written_new readings answered faults reading result (call.Refused c) (Ok bytes) post h h_new done is ok wrote =
     post_answer seat m close old turns gave written written_new readings answered faults result (ticks reading ∷ []) (refusal_of c) post h h_new
     (refused reading c (ap is_post post) is) done (subst (λ (text : List ℕ). AddsBytes written written_new result text) ok wrote)
 fault_answer seat m close old turns gave written written_new readings answered faults reading result call.NoMemory (Ok bytes) post h h_new done is ok wrote = absurd ok
 
--- the turn of a request
-pub turn_answer : (seat : Seat) (m : Message) (close : Bool) (old : World) (turns turns_new : List Turn) (gave : List (List ℕ)) (written written_new readings : List ℕ)
-    (answered : List Exchange) (faults reading : ℕ) (result : Result (Unit {0}) Failed) (request : Request) (reply : TurnReply) (bytes : Result (List ℕ) NoMemory)
-    → m.method ≡ Post → IsBook old.turns → IsBook turns → IsBook turns_new → Does seat (ticks reading ∷ []) old (world turns gave written readings answered faults)
-    → IsAsked m (moment_of reading) request → IsAnswered seat turns turns_new request close reply → IfOk bytes (λ b. b ≡ turn_text reply close)
-    → OnErr bytes (IsUnrendered reply) → AddsBytes written written_new result (text_or bytes close)
-    → HasAnswered seat m close old (world turns_new gave written_new readings answered faults) result
-turn_answer seat m close old turns turns_new gave written written_new readings answered faults reading result request reply (Ok bytes) post h h_mid h_new done is_asked a ok err wrote =
-    post_answer seat m close old turns_new gave written written_new readings answered faults result (ticks reading ∷ makes a.placed ∷ []) a.replied post h h_new
-    (served reading request a.placed a.replied (ap is_post post) is_asked a.replies)
-    (does_append seat (ticks reading ∷ []) (makes a.placed ∷ []) old (world turns gave written readings answered faults) (world turns_new gave written readings answered faults) h h_mid done
-    (does_made seat (makes a.placed ∷ []) turns turns_new gave written readings answered faults refl refl refl refl a.makes))
-    (subst (λ (text : List ℕ). AddsBytes written written_new result text) (ok ∙ a.text) wrote)
-turn_answer seat m close old turns turns_new gave written written_new readings answered faults reading result request reply (Err none) post h h_mid h_new done is_asked a ok err wrote =
-    post_answer seat m close old turns_new gave written written_new readings answered faults result (ticks reading ∷ makes a.placed ∷ []) no_memory post h h_new
-    (unrendered reading request a.placed a.replied (ap is_post post) is_asked a.replies (a.unwritten err))
-    (does_append seat (ticks reading ∷ []) (makes a.placed ∷ []) old (world turns gave written readings answered faults) (world turns_new gave written readings answered faults) h h_mid done
-    (does_made seat (makes a.placed ∷ []) turns turns_new gave written readings answered faults refl refl refl refl a.makes))
-    wrote
-
--- the request is not carried out, since the book is broken
-pub failed_answer : (seat : Seat) (m : Message) (close : Bool) (old : World) (turns turns_new : List Turn) (gave : List (List ℕ)) (written written_new readings : List ℕ)
-    (answered : List Exchange) (faults reading : ℕ) (result : Result (Unit {0}) Failed) (request : Request) → m.method ≡ Post → IsBook old.turns → IsBook turns
-    → IsBook turns_new → Does seat (ticks reading ∷ []) old (world turns gave written readings answered faults) → IsAsked m (moment_of reading) request
-    → IsUnanswered seat turns turns_new request → AddsBytes written written_new result (reply_text journal_failed close)
-    → HasAnswered seat m close old (world turns_new gave written_new readings answered faults) result
-failed_answer seat m close old turns turns_new gave written written_new readings answered faults reading result request post h h_mid h_new done is_asked (inl (p, made, fails)) wrote =
-    post_answer seat m close old turns_new gave written written_new readings answered faults result (ticks reading ∷ makes p ∷ []) journal_failed post h h_new
-    (failed reading request p (ap is_post post) is_asked fails)
-    (does_append seat (ticks reading ∷ []) (makes p ∷ []) old (world turns gave written readings answered faults) (world turns_new gave written readings answered faults) h h_mid done
-    (does_made seat (makes p ∷ []) turns turns_new gave written readings answered faults refl refl refl refl made))
-    wrote
-failed_answer seat m close old turns turns_new gave written written_new readings answered faults reading result request post h h_mid h_new done is_asked (inr (made, broken)) wrote =
-    let s : State = state_of turns_new in
-    post_answer seat m close old turns_new gave written written_new readings answered faults result (ticks reading ∷ looks s ∷ []) journal_failed post h h_new
-    (failed_before reading request s (ap is_post post) is_asked broken)
-    (does_append seat (ticks reading ∷ []) (looks s ∷ []) old (world turns gave written readings answered faults) (world turns_new gave written readings answered faults) h h_mid done
-    (does_made seat (looks s ∷ []) turns turns_new gave written readings answered faults refl refl refl refl made))
-    wrote
-
--- a DeliverDue, from its steps and its reply
-pub delivery_answer : (seat : Seat) (m : Message) (close : Bool) (old mid new : World) (reading : ℕ) (result : Result (Unit {0}) Failed) (request : Request) (budget : ℕ)
+-- a message that asks for a request that was carried out
+pub request_answer : (seat : Seat) (m : Message) (close : Bool) (old mid new : World) (reading : ℕ) (result : Result (Unit {0}) Failed) (request : Request)
     → m.method ≡ Post → IsBook old.turns → IsBook mid.turns → Does seat (ticks reading ∷ []) old mid → IsAsked m (moment_of reading) request
-    → request.action ≡ deliver_due budget → HasDelivered seat budget close mid new result → HasAnswered seat m close old new result
-delivery_answer seat m close old mid new reading result request budget post h h_mid done is_asked due d = record {
+    → HasReplied (IsAnswerTo request) seat close mid new result → HasAnswered seat m close old new result
+request_answer seat m close old mid new reading result request post h h_mid done is_asked d = record {
   done = ticks reading ∷ d.done;
   reply = d.reply;
-  answers = by_steps d.delivery;
+  answers = answered d.carried_out;
   does = subst (λ (text : List ℕ). DoesAndWrites seat (ticks reading ∷ d.done) text old new result) (post_text m d.reply close post)
       (after_acts seat (ticks reading ∷ []) d.done (reply_text d.reply close) old mid new result h h_mid done d.does);
 }
   where
-    by_steps : IsDelivery budget d.done d.reply → Answers m (ticks reading ∷ d.done) d.reply
-    by_steps (inl (turned, stop, steps, reply_is)) =
-        subst (λ (r : Reply). Answers m (ticks reading ∷ d.done) r) (sym reply_is)
-        (stepped reading request budget d.done turned stop (ap is_post post) is_asked due steps)
-    by_steps (inr (none, reply_is)) =
+    answered : IsAnswerTo request d.done d.reply ⊎ ((d.done ≡ []) × (d.reply ≡ no_memory)) → Answers m (ticks reading ∷ d.done) d.reply
+    answered (inl is) = is m reading (ap is_post post) is_asked
+    answered (inr (none, reply_is)) =
         subst (λ (acts : List Act). Answers m (ticks reading ∷ acts) d.reply) (sym none)
         (subst (λ (r : Reply). Answers m (ticks reading ∷ []) r) (sym reply_is) (out_of_memory reading (ap is_post post)))
+
+-- what was done carries out another request too
+pub replied_as : (P Q : List Act → Reply → Type 0) (seat : Seat) (close : Bool) (old new : World) (result : Result (Unit {0}) Failed)
+    → ((acts : List Act) (reply : Reply) → P acts reply → Q acts reply) → HasReplied P seat close old new result → HasReplied Q seat close old new result
+replied_as P Q seat close old new result f d = record { done = d.done; reply = d.reply; carried_out = by d.carried_out; does = d.does }
+  where
+    by : P d.done d.reply ⊎ ((d.done ≡ []) × (d.reply ≡ no_memory)) → Q d.done d.reply ⊎ ((d.done ≡ []) × (d.reply ≡ no_memory))
+    by (inl is) = inl (f d.done d.reply is)
+    by (inr none) = inr none
+
+-- the turn of a request
+pub turn_replied : (seat : Seat) (close : Bool) (turns turns_new : List Turn) (gave : List (List ℕ)) (written written_new readings : List ℕ)
+    (answered : List Exchange) (faults : ℕ) (result : Result (Unit {0}) Failed) (request : Request) (reply : TurnReply) (bytes : Result (List ℕ) NoMemory)
+    → IsBook turns → IsBook turns_new → IsAnswered seat turns turns_new request close reply → IfOk bytes (λ b. b ≡ turn_text reply close)
+    → OnErr bytes (IsUnrendered reply) → AddsBytes written written_new result (text_or bytes close)
+    → HasReplied (IsAnswerTo request) seat close (world turns gave written readings answered faults) (world turns_new gave written_new readings answered faults) result
+turn_replied seat close turns turns_new gave written written_new readings answered faults result request reply (Ok bytes) h h_new a ok err wrote = record {
+  done = makes a.placed ∷ [];
+  reply = a.replied;
+  carried_out = inl (λ m reading post is_asked. served reading request a.placed a.replied post is_asked a.replies);
+  does = writes_then seat (makes a.placed ∷ []) (reply_text a.replied close) (world turns gave written readings answered faults) turns_new gave written written_new
+      readings answered faults result h h_new
+      (does_made seat (makes a.placed ∷ []) turns turns_new gave written readings answered faults refl refl refl refl a.makes)
+      (subst (λ (text : List ℕ). AddsBytes written written_new result text) (ok ∙ a.text) wrote);
+}
+turn_replied seat close turns turns_new gave written written_new readings answered faults result request reply (Err none) h h_new a ok err wrote = record {
+  done = makes a.placed ∷ [];
+  reply = no_memory;
+  carried_out = inl (λ m reading post is_asked. unrendered reading request a.placed a.replied post is_asked a.replies (a.unwritten err));
+  does = writes_then seat (makes a.placed ∷ []) (reply_text no_memory close) (world turns gave written readings answered faults) turns_new gave written written_new
+      readings answered faults result h h_new
+      (does_made seat (makes a.placed ∷ []) turns turns_new gave written readings answered faults refl refl refl refl a.makes) wrote;
+}
+
+-- the request is not carried out, since the book is broken
+pub failed_replied : (seat : Seat) (close : Bool) (turns turns_new : List Turn) (gave : List (List ℕ)) (written written_new readings : List ℕ)
+    (answered : List Exchange) (faults : ℕ) (result : Result (Unit {0}) Failed) (request : Request) → IsBook turns → IsBook turns_new
+    → IsUnanswered seat turns turns_new request → AddsBytes written written_new result (reply_text journal_failed close)
+    → HasReplied (IsAnswerTo request) seat close (world turns gave written readings answered faults) (world turns_new gave written_new readings answered faults) result
+failed_replied seat close turns turns_new gave written written_new readings answered faults result request h h_new (inl (p, made, fails)) wrote = record {
+  done = makes p ∷ [];
+  reply = journal_failed;
+  carried_out = inl (λ m reading post is_asked. failed reading request p post is_asked fails);
+  does = writes_then seat (makes p ∷ []) (reply_text journal_failed close) (world turns gave written readings answered faults) turns_new gave written written_new
+      readings answered faults result h h_new
+      (does_made seat (makes p ∷ []) turns turns_new gave written readings answered faults refl refl refl refl made) wrote;
+}
+failed_replied seat close turns turns_new gave written written_new readings answered faults result request h h_new (inr (made, broken)) wrote = record {
+  done = looks (state_of turns_new) ∷ [];
+  reply = journal_failed;
+  carried_out = inl (λ m reading post is_asked. failed_before reading request (state_of turns_new) post is_asked broken);
+  does = writes_then seat (looks (state_of turns_new) ∷ []) (reply_text journal_failed close) (world turns gave written readings answered faults) turns_new gave written
+      written_new readings answered faults result h h_new
+      (does_made seat (looks (state_of turns_new) ∷ []) turns turns_new gave written readings answered faults refl refl refl refl made) wrote;
+}
+
+-- out of memory, and nothing was done; others may have made turns
+pub unreplied : (IsDone : List Act → Reply → Type 0) (seat : Seat) (close : Bool) (turns turns_new : List Turn) (gave : List (List ℕ))
+    (written written_new readings : List ℕ) (answered : List Exchange) (faults : ℕ) (result : Result (Unit {0}) Failed) → IsBook turns → IsBook turns_new
+    → Makes seat [] turns turns_new → AddsBytes written written_new result (reply_text no_memory close)
+    → HasReplied IsDone seat close (world turns gave written readings answered faults) (world turns_new gave written_new readings answered faults) result
+unreplied IsDone seat close turns turns_new gave written written_new readings answered faults result h h_new made wrote = record {
+  done = [];
+  reply = no_memory;
+  carried_out = inr (refl, refl);
+  does = writes_then seat [] (reply_text no_memory close) (world turns gave written readings answered faults) turns_new gave written written_new readings answered
+      faults result h h_new (does_made seat [] turns turns_new gave written readings answered faults refl refl refl refl made) wrote;
+}
+
+-- a DeliverDue
+pub delivery_answers : (request : Request) (budget : ℕ) → request.action ≡ deliver_due budget → (acts : List Act) (reply : Reply) → IsDelivery budget acts reply
+    → IsAnswerTo request acts reply
+delivery_answers request budget due acts reply (turned, stop, steps, is) = λ m reading post is_asked.
+    subst (λ (r : Reply). Answers m (ticks reading ∷ acts) r) (sym is) (stepped reading request budget acts turned stop post is_asked due steps)
 
 -- the steps of a DeliverDue were made
 pub was_delivered : (seat : Seat) (budget : ℕ) (close : Bool) (turns turns_new : List Turn) (gave : List (List ℕ)) (written written_new readings readings_new : List ℕ)
     (answered answered_new : List Exchange) (faults faults_new : ℕ) (made : Stepped) (result : Result (Unit {0}) Failed) → IsBook turns → IsBook turns_new
     → Delivers seat budget turns turns_new (outside readings answered faults) (outside readings_new answered_new faults_new) made
     → AddsBytes written written_new result (reply_text (steps_reply made.turned made.stop) close)
-    → HasDelivered seat budget close (world turns gave written readings answered faults) (world turns_new gave written_new readings_new answered_new faults_new) result
+    → HasReplied (IsDelivery budget) seat close (world turns gave written readings answered faults) (world turns_new gave written_new readings_new answered_new faults_new) result
 was_delivered seat budget close turns turns_new gave written written_new readings readings_new answered answered_new faults faults_new made result h h_new d wrote =
     let quiet = steps_quiet budget d.acts made.turned made.stop d.steps in
     record {
       done = d.acts;
       reply = steps_reply made.turned made.stop;
-      delivery = inl (made.turned, made.stop, d.steps, refl);
+      carried_out = inl (made.turned, made.stop, d.steps, refl);
       does = writes_then seat d.acts (reply_text (steps_reply made.turned made.stop) close) (world turns gave written readings answered faults) turns_new gave written
           written_new readings_new answered_new faults_new result h h_new
           (does_acts seat d.acts turns turns_new gave written readings readings_new answered answered_new faults faults_new quiet.0 quiet.1 d.makes d.goes) wrote;
     }
-
--- out of memory before the first step
-pub undelivered : (seat : Seat) (budget : ℕ) (close : Bool) (turns : List Turn) (gave : List (List ℕ)) (written written_new readings : List ℕ)
-    (answered : List Exchange) (faults : ℕ) (result : Result (Unit {0}) Failed) → IsBook turns → AddsBytes written written_new result (reply_text no_memory close)
-    → HasDelivered seat budget close (world turns gave written readings answered faults) (world turns gave written_new readings answered faults) result
-undelivered seat budget close turns gave written written_new readings answered faults result h wrote = record {
-  done = [];
-  reply = no_memory;
-  delivery = inr (refl, refl);
-  does = writes_then seat [] (reply_text no_memory close) (world turns gave written readings answered faults) turns gave written written_new readings answered faults
-      result h h (does_made seat [] turns turns gave written readings answered faults refl refl refl refl (makes_none seat turns)) wrote;
-}
 
 -- the turn of a request leaves the claims as they are
 asked_claims : (n : ℕ) (turn : Turn) (ask : Ask) (s : State) (request : Request) → ask ≡ asked request → claims_of n s.open_claims ≡ []
@@ -189,7 +197,7 @@ asked_claims n turn ask s request is none =
     ap (λ (a : Ask). claims_of n (after_ask turn a s).open_claims) is ∙ ap (claims_of n) (open_written turn.batch s) ∙ none
 
 -- one turn that leaves its pass without a claim
-one_rests : (seat : Seat) (old new : List Turn) (p : Placed) → Makes seat (makes p ∷ []) old new
+pub one_rests : (seat : Seat) (old new : List Turn) (p : Placed) → Makes seat (makes p ∷ []) old new
     → (claims_of seat.pass p.before.open_claims ≡ [] → claims_of seat.pass (after_turn p.turn p.before).open_claims ≡ []) → Rests seat.pass old → Rests seat.pass new
 one_rests seat old new p m stays rests =
     let (others, rest, is, other, pass, before, known, after) = m.happens in
@@ -206,12 +214,12 @@ answered_rests seat old new request close reply a rests =
     one_rests seat old new a.placed a.makes (asked_claims seat.pass a.placed.turn a.placed.turn.ask a.placed.before request a.replies.0) rests
 
 -- so does the turn that breaks the book
-broken_claims : (n : ℕ) (turn : Turn) (ask : Ask) (s : State) (b : Batch) → ask ≡ breaks (b ∷ []) → claims_of n s.open_claims ≡ []
+pub broken_claims : (n : ℕ) (turn : Turn) (ask : Ask) (s : State) (b : Batch) → ask ≡ breaks (b ∷ []) → claims_of n s.open_claims ≡ []
     → claims_of n (after_ask turn ask s).open_claims ≡ []
 broken_claims n turn ask s b is none = ap (λ (a : Ask). claims_of n (after_ask turn a s).open_claims) is ∙ none
 
 -- a look leaves them too
-look_rests : (seat : Seat) (old new : List Turn) (seen : State) → Makes seat (looks seen ∷ []) old new → Rests seat.pass old → Rests seat.pass new
+pub look_rests : (seat : Seat) (old new : List Turn) (seen : State) → Makes seat (looks seen ∷ []) old new → Rests seat.pass old → Rests seat.pass new
 look_rests seat old new seen m rests =
     let (others, rest, is, other, shown, after) = m.happens in
     ap (λ (s : State). claims_of seat.pass s.open_claims) (state_longer old m.added new m.turns)

@@ -1,7 +1,7 @@
--- From the clauses of the desk to those of the courier's trait: `claim_found`, `claim_refused`, `record_made`, `record_refused`, `back_did`; the seat of
--- a pass, `seat_is`, `still_seated`.
-use Rattle.std.proofs.Common.{◌≡◌, ℕ, List, [], ◌∷◌, Option, Some, None, Result, Ok, Err, ap, ◌∙◌}
-use Rattle.std.specs.Prelude.{IfOk, IfErr, IfSome, IfNone, MatchOption}
+-- From the clauses of the desk to those of the courier's trait: `claim_found`, `claim_refused`, `record_made`, `record_refused`, `back_did`; to those of a
+-- run of steps: `step_made`, `step_refused`; the seat of a pass, `seat_is`, `still_seated`.
+use Rattle.std.proofs.Common.{◌≡◌, ℕ, Bool, true, false, List, [], ◌∷◌, map, Option, Some, None, Result, Ok, Err, ap, ◌∙◌}
+use Rattle.std.specs.Prelude.{IfOk, IfErr, MatchBool, MatchOption}
 use Rattle.atomic_table.specs.Seated.{TableId}
 use Rattle.turn_book.specs.Passes.{IsFree, IsSamePass}
 use Rattle.delivery_duties.specs.declared.outcome.Outcome.{Outcome}
@@ -11,15 +11,20 @@ use Rattle.courier_run.specs.Act.{looks, makes}
 use Rattle.courier_run.specs.Book.{HasCause, stop_of}
 use Rattle.courier_run.specs.Claim.{Claim}
 use Rattle.courier_run.specs.Steps.{unsent}
+use Rattle.step_run.specs.Act as step
+use Rattle.step_run.specs.Step.{IsRefusal}
+use Rattle.step_run.specs.declared.fault.StepFault.{StepFault}
 use Rattle.router_history.specs.declared.book.Seat.{Seat}
 use Rattle.router_history.specs.declared.held.Held.{Held}
 use Rattle.router_history.specs.History.{State, Placed, state_of}
 use Rattle.router_history.specs.Held.{held_claim}
 use Rattle.router_history.specs.Book.{IsBook, Rests, Holds}
 use Rattle.router_history.specs.Acts.{Act, Claims, Records, PutsBack, IsIdle, IsFullAt, IsBrokenAt, IsUnrecorded}
+use Rattle.router_history.specs.Acts.{StepAct, act_of, Repeats, BreaksRepeat, IsNoneRunning, IsRepeatFull, IsRepeatBroken}
 use Rattle.router_sessions.specs.Desk.{Known, turns_seen, number_of, seat_of}
 use Rattle.router_sessions.specs.Delivery.{Did, IsSeated}
-use Rattle.router_sessions.specs.Seated.{IsBackResult, IsClaimResult, IsRecordResult}
+use Rattle.router_sessions.specs.Repeating.{DidSteps}
+use Rattle.router_sessions.specs.Seated.{IsBackResult, IsClaimResult, IsRecordResult, IsStepResult}
 use Rattle.router_sessions.proofs.DidLemmas.{did_made}
 
 -- the seat of a pass
@@ -68,3 +73,22 @@ pub record_refused : {V : Type 0} (seat : Seat) (c : Claim) (had : Outcome) (old
     → IfErr result (λ fault. (acts : List Act) × Did seat old new acts × IsUnrecorded c had acts (stop_of fault))
 record_refused seat c had old new (Ok fate) r = tt
 record_refused seat c had old new (Err fault) r = (r.refused.acts, did_made seat old new r.refused.acts r.first r.book r.more r.refused.makes, r.refused.ends)
+
+-- a step of the replays, or a look that finds none
+pub step_made : {V : Type 0} (seat : Seat) (moment : ℕ) (old new : Known V) (result : Result Bool StepFault) → IsStepResult seat moment old new result
+    → IfOk result (λ made. MatchBool made
+    ((p : Placed) × DidSteps seat old new (step.makes p ∷ []) × Repeats p moment)
+    ((s : State) × DidSteps seat old new (step.looks s ∷ []) × IsNoneRunning s moment))
+step_made seat moment old new (Ok true) r =
+    let a = r.stepped in (a.placed, did_made seat old new (makes a.placed ∷ []) r.first r.book r.more a.makes, a.repeats)
+step_made seat moment old new (Ok false) r =
+    let (looked, none) = r.stepped in
+    let s = state_of (turns_seen new) in (s, did_made seat old new (looks s ∷ []) r.first r.book r.more looked, none)
+step_made seat moment old new (Err fault) r = tt
+
+pub step_refused : {V : Type 0} (seat : Seat) (moment : ℕ) (old new : Known V) (result : Result Bool StepFault) → IsStepResult seat moment old new result
+    → IfErr result (λ fault. (acts : List StepAct) × DidSteps seat old new acts
+    × IsRefusal (λ p. BreaksRepeat p moment) (λ s. IsRepeatFull s moment) (λ s. IsRepeatBroken s moment) acts fault)
+step_refused seat moment old new (Ok made) r = tt
+step_refused seat moment old new (Err fault) r =
+    (r.refused.acts, did_made seat old new (map act_of r.refused.acts) r.first r.book r.more r.refused.makes, r.refused.refused)

@@ -1,5 +1,5 @@
 -- For private clauses: what the courier's calls do through a pass.
-use Rattle.std.specs.Prelude.{◌≡◌, ℕ, ◌<◌, ◌^◌, List, [], ◌∷◌, Option, Result, IfOk, IfErr, IfSome, IfNone}
+use Rattle.std.specs.Prelude.{ℕ, ◌<◌, ◌^◌, [], ◌∷◌, Bool, Option, Result, IfOk, IfErr, IfSome, IfNone, MatchBool}
 use denote.Ref.{MutBor}
 use denote.Param.Members.{Shared}
 use Rattle.atomic_table.specs.Seated.{TableId}
@@ -11,13 +11,14 @@ use Rattle.courier_run.specs.Act.{looks}
 use Rattle.courier_run.specs.Book.{HasCause}
 use Rattle.courier_run.specs.Claim.{Claim, FitsClaim, NeedsSend}
 use Rattle.courier_run.specs.Steps.{unsent}
+use Rattle.step_run.specs.declared.fault.StepFault.{StepFault}
 use Rattle.router_history.specs.declared.book.Seat.{Seat}
 use Rattle.router_history.specs.declared.held.Held.{Held}
 use Rattle.router_history.specs.History.{state_of}
 use Rattle.router_history.specs.Held.{held_claim}
 use Rattle.router_history.specs.Book.{IsBook, Rests, Holds}
 use Rattle.router_history.specs.Acts.{Makes, IsIdle, IsFullAt, IsBrokenAt}
-use Rattle.router_history.specs.Answered.{IsClaimed, IsRecorded, IsUnrecordedBy, IsPutBack}
+use Rattle.router_history.specs.Answered.{IsClaimed, IsRecorded, IsUnrecordedBy, IsPutBack, IsRepeated, HasNoRepeat, IsUnrepeated}
 use Rattle.router_sessions.specs.Desk.{Known, turns_seen, SeesMore}
 use Rattle.router_sessions.specs.Delivery.{IsSeated}
 
@@ -46,6 +47,27 @@ pub record IsBackResult {V : Type 0} (seat : Seat) (c : Claim) (old new : Known 
   pub book : IsBook (turns_seen new)
   pub more : SeesMore old new
   pub back : IsPutBack seat c unsent (turns_seen old) (turns_seen new)
+
+-- what a step of the replays from the seat returns
+pub record IsStepResult {V : Type 0} (seat : Seat) (moment : ℕ) (old new : Known V) (result : Result Bool StepFault) : Type 0 where
+  pub first : IsBook (turns_seen old)
+  pub book : IsBook (turns_seen new)
+  pub more : SeesMore old new
+  pub stepped : IfOk result (λ made. MatchBool made (IsRepeated seat moment (turns_seen old) (turns_seen new))
+      (HasNoRepeat seat moment (turns_seen old) (turns_seen new)))
+  pub refused : IfErr result (λ fault. IsUnrepeated seat moment fault (turns_seen old) (turns_seen new))
+
+module _ {P V S : Type 0} (known : P → Known V) where
+  -- a closure that makes steps of replays through a pass of this hall and this seat
+  pub record IsRepeater (hall : TableId) (seat : Seat) (passes made : ℕ)
+      (f : Shared S (MutBor P × (ℕ × Unit {0})) (Result Bool StepFault × (MutBor P × Unit {0}))) (step : S) : Type 0 where
+    pub may_step : (pass : MutBor P) (reading : ℕ) → reading < 2 ^ 64 → IsSeated hall seat passes made (known pass.now) → IsMoment reading
+        → Rests seat.pass (turns_seen (known pass.now)) → f.pre step (pass, (reading, tt))
+    pub steps : (pass after : MutBor P) (reading : ℕ) (result : Result Bool StepFault)
+        → IsSeated hall seat passes made (known pass.now) → IsMoment reading → Rests seat.pass (turns_seen (known pass.now))
+        → f.post step (pass, (reading, tt)) (result, (after, tt))
+        → IsSeated hall seat passes made (known after.now) × Rests seat.pass (turns_seen (known after.now))
+        × IsStepResult seat reading (known pass.now) (known after.now) result
 
 module _ {P V C R B : Type 0} (known : P → Known V) where
   -- closures that claim, record and put back through a pass of this hall and this seat

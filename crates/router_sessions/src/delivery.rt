@@ -50,7 +50,7 @@ impl Naming for Brand {
 }
 
 /// A pass, by what it knows of the history. A bound cannot name the passes of a hall.
-trait Knows {
+pub(crate) trait Knows {
     ghost use Rattle.router_sessions.specs.Desk.{Known};
 
     type Value;

@@ -1,8 +1,8 @@
 //! Turns of a pass: each takes the book from the hall, makes at most one turn, and gives the book back.
-ghost use Rattle.std.specs.Prelude.{◌≡◌, ◌∷◌, [], IsSome, IfOk, IfErr, IfSome, IfNone, Ok, Err, MatchResult};
+ghost use Rattle.std.specs.Prelude.{◌≡◌, ◌∷◌, [], IsSome, IfOk, IfErr, IfSome, IfNone, Ok, Err, is_some, MatchBool, MatchResult};
 ghost use Rattle.json_text.specs.Moment.{IsMoment};
 ghost use Rattle.turn_book.specs.Passes.{IsFree, IsSamePass};
-ghost use Rattle.router_core.specs.View.{request_of};
+ghost use Rattle.router_requests.specs.View.{request_of};
 ghost use Rattle.courier_run.specs.Act.{looks};
 ghost use Rattle.courier_run.specs.Claim.{FitsClaim, NeedsSend};
 ghost use Rattle.courier_run.specs.Book.{HasCause};
@@ -13,15 +13,18 @@ ghost use Rattle.router_history.specs.Book.{turns_of, Holds, Rests, IsBook, HasG
 ghost use Rattle.router_history.specs.Home.{IsSoundBook};
 ghost use Rattle.router_history.specs.Acts.{IsIdle, IsFullAt, IsBrokenAt, Makes};
 ghost use Rattle.router_history.specs.Answered.{IsAnswered, IsUnanswered, IsRenderable, IsClaimed, IsRecorded, IsUnrecordedBy, IsPutBack};
+ghost use Rattle.router_history.specs.Answered.{IsRepeated, HasNoRepeat, IsUnrepeated};
 ghost use Rattle.router_sessions.specs.Desk.{turns_seen, number_of, seat_of, SeesMore};
 
 use courier_run::BookFault;
 use delivery_duties::{Fate, Outcome};
-use router_core::Request;
+use router_core::Released;
 use router_disk::Disk;
 use router_history::{Book, Held, MadeTurn, RequestFault, Seat, TurnReply, Why};
+use router_requests::Request;
 use std::alloc::{AllocError, Global};
 use std::sync::Wait;
+use step_run::StepFault;
 use turn_book::{Hall, Pass};
 
 /// Where a pass makes its turns. Nothing is held between two of them.
@@ -206,6 +209,31 @@ impl<Rt: Wait, D: Disk> Desk<'_, Rt, D> {
         book.put_back(seat, held, Why::Unsent);
         self.hall.give(pass, book);
     }
+
+    /// Makes the next step of the replays at this reading of the clock, as `Book::step`. Returns whether there was one to make.
+    pub(crate) fn step(self, pass: &mut Pass<Book<D>>, reading: u64) -> Result<bool, StepFault>
+        requires here { pass.old.seat.table_id ≡ self.hall.now.table.shared.table_id }
+        requires free { IsFree pass.old.seat }
+        requires book { IsBook (turns_seen pass.old.seat) }
+        requires reading { IsMoment reading }
+        requires rests { Rests (number_of pass.old.seat) (turns_seen pass.old.seat) }
+        ensures pass { IsSamePass pass.old.seat pass.new.seat × IsFree pass.new.seat }
+        ensures book { IsBook (turns_seen pass.new.seat) }
+        ensures more { SeesMore pass.old.seat pass.new.seat }
+        ensures rests { Rests (number_of pass.old.seat) (turns_seen pass.new.seat) }
+        ensures stepped { IfOk result (λ made. MatchBool made
+            (IsRepeated (seat_of self.entry.connection pass.old.seat) reading (turns_seen pass.old.seat) (turns_seen pass.new.seat))
+            (HasNoRepeat (seat_of self.entry.connection pass.old.seat) reading (turns_seen pass.old.seat) (turns_seen pass.new.seat))) }
+        ensures refused { IfErr result (λ fault. IsUnrepeated (seat_of self.entry.connection pass.old.seat) reading fault
+            (turns_seen pass.old.seat) (turns_seen pass.new.seat)) }
+    {
+        let seat = self.seat(pass);
+        let mut book = self.hall.take(self.rt, pass);
+        let stepped = book.step(self.alloc, seat, reading);
+        self.hall.give(pass, book);
+        // Other passes have the book from here on, so none waits while what the turn released is freed.
+        was_made(stepped)
+    }
 }
 
 /// The reply of a turn that was made. What the turn released is freed.
@@ -214,6 +242,17 @@ fn made_reply(made: Result<MadeTurn, RequestFault>) -> Result<TurnReply, Request
 {
     match made {
         Ok(made) => Ok(made.into_reply()),
+        Err(fault) => Err(fault),
+    }
+}
+
+/// Whether a step was made. What its turn released is freed.
+fn was_made(stepped: Result<Option<Released>, StepFault>) -> Result<bool, StepFault>
+    ensures { MatchResult stepped (λ found. result ≡ Ok (is_some found)) (λ fault. result ≡ Err fault) }
+{
+    match stepped {
+        Ok(Some(_released)) => Ok(true),
+        Ok(None) => Ok(false),
         Err(fault) => Err(fault),
     }
 }

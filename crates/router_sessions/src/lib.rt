@@ -5,9 +5,10 @@ mod delivery;
 mod desk;
 mod exchange;
 mod quiet;
+mod replays;
 mod session;
 mod text;
 
 pub use message_streams::SessionEnd;
-pub use quiet::{look, serve_quiet};
+pub use quiet::{look, serve_quiet, step_quiet};
 pub use session::serve_session;

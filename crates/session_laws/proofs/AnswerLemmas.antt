@@ -1,11 +1,11 @@
--- What two sessions do for the messages that they answer. Other files cite `OneAnswer`, `Two`, `two_front`, `Together`, `writes_same`, `one_front`,
+-- What two sessions do for the messages that they answer. Other files cite `Once`, `Two`, `two_front`, `Together`, `writes_same`, `one_front`,
 -- `Answered`, `both_answer` and `same_serving`.
-use Rattle.std.proofs.Common.{◌≡◌, inl, inr, ℕ, false, List, [], ◌∷◌, ◌++◌, ◌-◌, take, length, sym, refl, ap, ◌∙◌, subst, arith, ◌+◌, Bool, append_assoc, append-nil}
+use Rattle.std.proofs.Common.{◌≡◌, inl, inr, ℕ, false, List, [], ◌∷◌, ◌++◌, ◌-◌, take, length, sym, refl, ap, ◌∙◌, subst, arith, ◌+◌, Bool, append_assoc, append-nil, Result}
 use Rattle.std.proofs.lemmas.List.{append_cancel_left}
 use Rattle.std.proofs.lemmas.List.Elements.{Contains-append_right, Contains-push}
 use Rattle.rule_table.specs.Control.{Control}
 use Rattle.rule_table.specs.RuleSet.{RuleSet, applied_all}
-use Rattle.router_core.specs.Request.{Request, deliver_due, IsOneTurn}
+use Rattle.router_requests.specs.Request.{Request, deliver_due, step_replays, IsOneTurn}
 use Rattle.router_core.specs.Tables.{Tables}
 use Rattle.router_calls.specs.Answer.{Answer, IsAnswer}
 use Rattle.api_replies.specs.Reply.{Reply, refused as refusal_of}
@@ -20,16 +20,22 @@ use Rattle.courier_run.specs.Steps.{none, one_more, attempted, idle_at, unrecord
 use Rattle.api_messages.specs.Messages.{HoldsMessage}
 use Rattle.api_messages.proofs.MessageLemmas.{one_message}
 use Rattle.router_history.specs.History.{State, Placed, last_version, set_of_version, IsAnsweredBy}
-use Rattle.router_history.specs.Acts.{Act, Steps}
-use Rattle.message_streams.specs.Reply.{steps_reply}
-use Rattle.router_history.specs.Session.{Answers, unposted, refused, out_of_memory, served, unrendered, failed, failed_before, stepped, Replies, sent_text, Serving, begun, reads_on, answers}
+use Rattle.router_history.specs.Acts.{Act, Steps, Repeating}
+use Rattle.step_run.specs.declared.fault.StepsFault.{StepsFault}
+use Rattle.message_streams.specs.Reply.{steps_reply, replays_reply}
+use Rattle.router_history.specs.Session.{Answers, unposted, refused, out_of_memory, served, unrendered, failed, failed_before, stepped, repeated, Replies, sent_text, Serving, begun, reads_on, answers}
 use Rattle.session_laws.specs.OneSession.{read_in, IsSameState, IsFailureReply, IsAmple}
 use Rattle.session_laws.proofs.SameLemmas.{RunsAct, turn_same, Same, same_append, Given, given_rest, read_append, after_acts, given_front}
 use Rattle.session_laws.proofs.StepLemmas.{Stop, Taken, IsFailure, same_steps}
+use Rattle.session_laws.proofs.ReplayLemmas.{OneStep, same_repeats, repeats_read}
 
 -- the law of `router_calls`: a request has at most one answer
 abbrev pub OneAnswer : Type 0
 OneAnswer = (t : Tables) (r : Request) (k : ℕ) (set : RuleSet) (a b : Answer) → IsAnswer t r k set a → IsAnswer t r k set b → a ≡ b
+
+-- both laws of `router_calls`: at most one answer, and at most one next step of the replays
+abbrev pub Once : Type 0
+Once = OneAnswer × OneStep
 
 ticks_same : (s t : State) (r r2 : ℕ) (xs ys : List Act) → Given s t (ticks r ∷ xs) (ticks r2 ∷ ys) → Same s t (ticks r ∷ []) (ticks r2 ∷ [])
 ticks_same s t r r2 xs ys g = record { state = g.state; does = record { turns = refl; readings = ap (λ n. n ∷ []) (g.two.readings.0 ∙ sym g.one.readings.0); tries = refl; bytes = refl } }
@@ -71,6 +77,15 @@ both_stepped s t r r2 budget xs ys x y why other one two known known2 g =
     (given_rest s t (ticks r ∷ []) (ticks r2 ∷ []) xs ys first g) in
     (same_append s t (ticks r ∷ []) (ticks r2 ∷ []) xs ys first is.0, ap (λ z. steps_reply z other) is.1 ∙ ap (steps_reply x) is.2)
 
+both_repeated : OneStep → (s t : State) (r r2 budget : ℕ) (xs ys : List Act) (a b : Result ℕ StepsFault) → Repeating budget xs a → Repeating budget ys b
+    → ¬ IsFailureReply (replays_reply a) → ¬ IsFailureReply (replays_reply b) → Given s t (ticks r ∷ xs) (ticks r2 ∷ ys)
+    → Same s t (ticks r ∷ xs) (ticks r2 ∷ ys) × (replays_reply b ≡ replays_reply a)
+both_repeated law s t r r2 budget xs ys a b one two known known2 g =
+    let first = ticks_same s t r r2 xs ys g in
+    let is = same_repeats law (after_acts (ticks r ∷ []) s) (after_acts (ticks r2 ∷ []) t) budget xs ys a b one two known known2
+    (given_rest s t (ticks r ∷ []) (ticks r2 ∷ []) xs ys first g) in
+    (same_append s t (ticks r ∷ []) (ticks r2 ∷ []) xs ys first is.0, ap replays_reply is.1)
+
 -- the same request, with the same clock
 same_request : (s t : State) (m : Message) (r r2 : ℕ) (q q2 : Request) (xs ys : List Act) → Given s t (ticks r ∷ xs) (ticks r2 ∷ ys) → IsAsked m (moment_of r) q
     → IsAsked m (moment_of r2) q2 → q2 ≡ q
@@ -78,7 +93,7 @@ same_request s t m r r2 q q2 xs ys g is is2 =
     one_request m (moment_of r) q2 q (subst (λ n. IsAsked m (moment_of n) q2) (g.two.readings.0 ∙ sym g.one.readings.0) is2) is
 
 -- two sessions answer a message alike, unless memory ran out or the journal failed
-pub same_answers : OneAnswer → (s t : State) (m : Message) (xs ys : List Act) (a b : Reply) → Answers m xs a → Answers m ys b → ¬ IsFailureReply a
+pub same_answers : Once → (s t : State) (m : Message) (xs ys : List Act) (a b : Reply) → Answers m xs a → Answers m ys b → ¬ IsFailureReply a
     → ¬ IsFailureReply b → Given s t xs ys → Same s t xs ys × (b ≡ a)
 same_answers law s t m _ _ _ _ (out_of_memory r post) _ known known2 g = absurd (known (inl refl))
 same_answers law s t m _ _ _ _ (unrendered r q p a post is replies unwritten) _ known known2 g = absurd (known (inl refl))
@@ -102,7 +117,7 @@ same_answers law s t m _ _ _ _ (refused r c post is) (stepped r2 q n ys y why po
 same_answers law s t m _ _ _ _ (served r q p a post is replies) (refused r2 c post2 is2) known known2 g = absurd (never_both m (moment_of r) q c is is2)
 same_answers law s t m _ _ _ _ (stepped r q n xs x why post is due steps) (refused r2 c post2 is2) known known2 g = absurd (never_both m (moment_of r) q c is is2)
 same_answers law s t m _ _ _ _ (served r q p a post is replies) (served r2 q2 p2 b post2 is2 replies2) known known2 g =
-    both_served law s t r r2 q p p2 a b replies (subst (λ z. Replies p2 z b) (same_request s t m r r2 q q2 _ _ g is is2) replies2) g
+    both_served law.0 s t r r2 q p p2 a b replies (subst (λ z. Replies p2 z b) (same_request s t m r r2 q q2 _ _ g is is2) replies2) g
 same_answers law s t m _ _ _ _ (served r q p a post is replies) (stepped r2 q2 n ys y why post2 is2 due steps) known known2 g =
     absurd (subst IsOneTurn (subst (λ (z : Request). z.action ≡ deliver_due n) (same_request s t m r r2 q q2 _ _ g is is2) due) replies.1.askable.one_turn)
 same_answers law s t m _ _ _ _ (stepped r q n xs x why post is due steps) (served r2 q2 p b post2 is2 replies) known known2 g =
@@ -112,6 +127,25 @@ same_answers law s t m _ _ _ _ (stepped r q n xs x why post is due steps) (stepp
     let dues : deliver_due n2 ≡ deliver_due n = sym due2 ∙ ap (λ (z : Request). z.action) (same_request s t m r r2 q q2 _ _ g is is2) ∙ due in
     let budget : n2 ≡ n = cc in
     both_stepped s t r r2 n xs ys x y why other steps (subst (λ z. Steps z ys y other) budget steps2) known known2 g
+same_answers law s t m _ _ _ _ (unposted r get) (repeated r2 q n ys b post is due repeating) known known2 g = cc
+same_answers law s t m _ _ _ _ (repeated r q n xs a post is due repeating) (unposted r2 get) known known2 g = cc
+same_answers law s t m _ _ _ _ (refused r c post is) (repeated r2 q n ys b post2 is2 due repeating) known known2 g =
+    absurd (never_both m (moment_of r2) q c is2 is)
+same_answers law s t m _ _ _ _ (repeated r q n xs a post is due repeating) (refused r2 c post2 is2) known known2 g =
+    absurd (never_both m (moment_of r) q c is is2)
+same_answers law s t m _ _ _ _ (served r q p a post is replies) (repeated r2 q2 n ys b post2 is2 due repeating) known known2 g =
+    absurd (subst IsOneTurn (subst (λ (z : Request). z.action ≡ step_replays n) (same_request s t m r r2 q q2 _ _ g is is2) due) replies.1.askable.one_turn)
+same_answers law s t m _ _ _ _ (repeated r q n xs a post is due repeating) (served r2 q2 p b post2 is2 replies) known known2 g =
+    let request = sym (same_request s t m r r2 q q2 _ _ g is is2) in
+    absurd (subst IsOneTurn (subst (λ (z : Request). z.action ≡ step_replays n) request due) replies.1.askable.one_turn)
+same_answers law s t m _ _ _ _ (stepped r q n xs x why post is due steps) (repeated r2 q2 n2 ys b post2 is2 due2 repeating) known known2 g =
+    let dues : step_replays n2 ≡ deliver_due n = sym due2 ∙ ap (λ (z : Request). z.action) (same_request s t m r r2 q q2 _ _ g is is2) ∙ due in cc
+same_answers law s t m _ _ _ _ (repeated r q n xs a post is due repeating) (stepped r2 q2 n2 ys y why post2 is2 due2 steps) known known2 g =
+    let dues : deliver_due n2 ≡ step_replays n = sym due2 ∙ ap (λ (z : Request). z.action) (same_request s t m r r2 q q2 _ _ g is is2) ∙ due in cc
+same_answers law s t m _ _ _ _ (repeated r q n xs a post is due repeating) (repeated r2 q2 n2 ys b post2 is2 due2 repeating2) known known2 g =
+    let dues : step_replays n2 ≡ step_replays n = sym due2 ∙ ap (λ (z : Request). z.action) (same_request s t m r r2 q q2 _ _ g is is2) ∙ due in
+    let budget : n2 ≡ n = cc in
+    both_repeated law.1 s t r r2 n xs ys a b repeating (subst (λ z. Repeating z ys b) budget repeating2) known known2 g
 
 taken_read : (xs : List Act) (x : Turned) → Taken xs x → read_in xs ≡ []
 taken_read _ _ none = refl
@@ -129,6 +163,7 @@ pub answers_read : (m : Message) (xs : List Act) (reply : Reply) → Answers m x
 answers_read m _ _ (stepped r request budget _ _ _ post is due (spent xs x taken used)) = taken_read xs x taken
 answers_read m _ _ (stepped r request budget _ _ _ post is due (stopped xs last x why taken less stop)) =
     read_append xs last ∙ ap (λ z. z ++ read_in last) (taken_read xs x taken) ∙ stop_read last why stop
+answers_read m _ _ (repeated r request budget acts made post is due repeating) = repeats_read budget acts made repeating
 answers_read m _ _ _ = refl
 
 read_split : (xs vs : List Act) (u : List ℕ) → read_in (xs ++ vs) ++ u ≡ read_in xs ++ (read_in vs ++ u)
@@ -198,7 +233,7 @@ remembered xs done m reply close ample says =
     (m.method, close, reply, says, refl)
 
 -- two sessions answer the next message
-pub both_answer : OneAnswer → (s t : State) (held other_held rest other_rest : List ℕ) (xs ys done other_done : List Act) (m other : Message)
+pub both_answer : Once → (s t : State) (held other_held rest other_rest : List ℕ) (xs ys done other_done : List Act) (m other : Message)
     (reply other_reply : Reply) (close : Message → Bool) → Together s t xs ys held other_held → HoldsMessage held m rest
     → HoldsMessage other_held other other_rest → Answers m done reply → Answers other other_done other_reply
     → Two s t (xs ++ Answered done m reply (close m)) (ys ++ Answered other_done other other_reply (close other))
@@ -233,7 +268,7 @@ both_begin s t x _ _ _ (answers n held rest ys done m reply before holds did sta
 abbrev SameAs : State → State → (n : ℕ) (held : List ℕ) (xs : List Act) → Type 0
 SameAs s t n held xs = (other_held : List ℕ) (ys : List Act) → Serving n other_held ys → Two s t xs ys → Together s t xs ys held other_held
 
-both_answered : OneAnswer → (s t : State) (held rest : List ℕ) (n k : ℕ) (xs done : List Act) (m : Message) (reply : Reply) → SameAs s t n held xs
+both_answered : Once → (s t : State) (held rest : List ℕ) (n k : ℕ) (xs done : List Act) (m : Message) (reply : Reply) → SameAs s t n held xs
     → HoldsMessage held m rest → Answers m done reply → (other_held : List ℕ) (ys : List Act) → Serving k other_held ys → k ≡ n + 1
     → Two s t (xs ++ Answered done m reply false) ys → Together s t (xs ++ Answered done m reply false) ys rest other_held
 both_answered law s t held rest n _ xs done m reply ih holds is _ _ (begun y) count g = absurd (omega (arith, count))
@@ -247,7 +282,7 @@ both_answered law s t held rest n _ xs done m reply ih holds is _ _ (answers k h
     (two_front s t xs ys (Answered done m reply false) (Answered done2 other reply2 false) g)) holds holds2 is is2 g
 
 -- two sessions that answered the same number of messages of the same bytes did alike
-pub same_serving : OneAnswer → (s t : State) (n : ℕ) (held : List ℕ) (xs : List Act) → Serving n held xs → SameAs s t n held xs
+pub same_serving : Once → (s t : State) (n : ℕ) (held : List ℕ) (xs : List Act) → Serving n held xs → SameAs s t n held xs
 same_serving law s t _ _ _ (begun x) other_held ys two g = both_begin s t x other_held 0 ys two refl g
 same_serving law s t _ _ _ (reads_on n held piece xs before awaited some) other_held ys two g =
     read_here s t xs ys piece held other_held (same_serving law s t n held xs before other_held ys two

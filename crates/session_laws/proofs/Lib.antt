@@ -1,4 +1,5 @@
 mod SameLemmas
 mod StepLemmas
+mod ReplayLemmas
 mod AnswerLemmas
 mod SessionLemmas

@@ -9,12 +9,12 @@ use Rattle.std.proofs.lemmas.List.Elements.{All-head, All-tail, Contains-append_
 use Rattle.turn_book.specs.Rule.{is_number}
 use Rattle.delivery_duties.specs.declared.outcome.Outcome.{Outcome}
 use Rattle.rule_table.specs.RuleSet.{RuleSet}
-use Rattle.router_core.specs.Batch.{Batch}
+use Rattle.router_requests.specs.Batch.{Batch}
 use Rattle.router_core.specs.Tables.{after_batch}
 use Rattle.router_core.specs.Steps.{claiming, putting_back}
 use Rattle.courier_run.specs.Claim.{NeedsSend}
 use Rattle.courier_run.specs.Act.{looks, makes, readings_of, readings_in, tries_of, tries_in, bytes_of, pieces_of, pieces_in}
-use Rattle.router_history.specs.History.{State, Turn, last_version, Ask, opens, asked, claims, records, puts_back, breaks, controls_in, after_change, after_ask, after_turn}
+use Rattle.router_history.specs.History.{State, Turn, last_version, Ask, opens, asked, claims, records, puts_back, repeats, breaks, controls_in, after_change, after_ask, after_turn}
 use Rattle.router_history.specs.History.{state_after, turns_by, IsTurnOf, AreTurnsFrom}
 use Rattle.router_history.specs.Acts.{Act, Happens}
 use Rattle.session_laws.specs.OneSession.{IsSameState, unnamed, unnamed_of, DoSame, Follows, IsClock, IsLink, IsAmple, read_in}
@@ -91,6 +91,7 @@ asked_same p q (claims c) s t batch same = record { start = same.start; tables =
 asked_same p q (records a) s t batch same =
     let changed = changed_same p.batch q.batch s t batch same in record { start = changed.start; tables = changed.tables; controls = changed.controls }
 asked_same p q (puts_back c why) s t batch same = record { start = same.start; tables = ap (putting_back c.number) same.tables; controls = same.controls }
+asked_same p q (repeats reading) s t batch same = changed_same p.batch q.batch s t batch same
 asked_same p q (breaks unsure) s t batch same = record { start = same.start; tables = same.tables; controls = same.controls }
 
 pub same_version : (s t : State) → IsSameState s t → last_version t ≡ last_version s

@@ -25,7 +25,7 @@ use Rattle.session_laws.specs.OneSession.{IsSameState, IsUndisturbed, read_in, I
 use Rattle.session_laws.specs.OneSession.{EndedAlike, alike, undecided, BeginAlike, EndAlike}
 use Rattle.session_laws.proofs.SameLemmas.{after_acts, after_append, runs_of, Same, same_append, Side, Given, given_other, read_append}
 use Rattle.session_laws.proofs.StepLemmas.{same_count}
-use Rattle.session_laws.proofs.AnswerLemmas.{OneAnswer, Two, two_front, Together, same_serving, one_front, writes_same, Answered, both_answer}
+use Rattle.session_laws.proofs.AnswerLemmas.{Once, Two, two_front, Together, same_serving, one_front, writes_same, Answered, both_answer}
 
 -- the input ended after these bytes, between two messages or inside one
 abbrev EndsInput : List ℕ → SessionEnd → Type 0
@@ -110,7 +110,7 @@ last_closes s t held other_held after n end xs _ ys ws other (answered m rest do
     subst (λ w. closes (n + 1) w ≡ true) (sym one.0) close
 
 -- one ended, so the other went on after no further message
-not_less : OneAnswer → (s t : State) (n : ℕ) (held : List ℕ) (end : SessionEnd) (xs tail : List Act) → Serving n held xs → Last n held end tail → (k : ℕ)
+not_less : Once → (s t : State) (n : ℕ) (held : List ℕ) (end : SessionEnd) (xs tail : List Act) → Serving n held xs → Last n held end tail → (k : ℕ)
     (other_held : List ℕ) (ys ws : List Act) → Serving k other_held ys → Fed s t (xs ++ tail) (ys ++ ws) → ¬ (n < k)
 not_less law s t n held end xs tail one last _ _ _ ws (begun look) x less = omega (arith, less)
 not_less law s t n held end xs tail one last _ _ _ ws (reads_on k held2 piece ys before awaited some) x less =
@@ -156,7 +156,7 @@ abbrev Result : State → State → List Act → List Act → SessionEnd → Ses
 Result s t xs ys end other_end = EndedAlike xs ys end other_end × IsSameState (after_acts xs s) (after_acts ys t)
 
 -- the last acts of both, after the same number of answers
-same_last : OneAnswer → (s t : State) (n : ℕ) (held other_held : List ℕ) (end other_end : SessionEnd) (xs vs ys ws : List Act) → Serving n held xs
+same_last : Once → (s t : State) (n : ℕ) (held other_held : List ℕ) (end other_end : SessionEnd) (xs vs ys ws : List Act) → Serving n held xs
     → Serving n other_held ys → Last n held end vs → Last n other_held other_end ws → Together s t xs ys held other_held → Fed s t (xs ++ vs) (ys ++ ws)
     → Result s t (xs ++ vs) (ys ++ ws) end other_end
 same_last law s t n held other_held end other_end xs _ ys _ one two (rested last is) (rested last2 is2) z x =
@@ -184,7 +184,7 @@ same_last law s t n held other_held end other_end xs _ ys _ one two (answered m 
     (alike all.does (after2 ∙ sym after), all.state)
 
 -- two sessions that nothing disturbed, with the same bytes
-same_final : OneAnswer → (s t : State) (xs ys : List Act) (end other_end : SessionEnd) → Final end xs → Final other_end ys → Fed s t xs ys
+same_final : Once → (s t : State) (xs ys : List Act) (end other_end : SessionEnd) → Final end xs → Final other_end ys → Fed s t xs ys
     → Result s t xs ys end other_end
 same_final law s t xs ys end other_end (n, held, vs, tail, one, last, is) (k, held2, ws, tail2, two, last2, is2) x =
     let y : Fed s t (vs ++ tail) (ws ++ tail2) = subst (λ z. Fed s t z (ws ++ tail2)) is (subst (Fed s t xs) is2 x) in
@@ -197,7 +197,7 @@ same_final law s t xs ys end other_end (n, held, vs, tail, one, last, is) (k, he
     (same_last law s t n held held2 end other_end vs tail ws tail2 one serving last (subst (λ w. Last w held2 other_end tail2) count last2) z y))
 
 -- the law
-pub end_alike : OneAnswer → (seat other_seat : Seat) (old new other other_new : World) (end other_end : SessionEnd)
+pub end_alike : Once → (seat other_seat : Seat) (old new other other_new : World) (end other_end : SessionEnd)
     (one : IsSession seat old new end) (two : IsSession other_seat other other_new other_end)
     → BeginAlike seat other_seat old new other other_new end other_end one two → EndAlike seat other_seat old new other other_new end other_end one two
 end_alike law seat other_seat old new other other_new end other_end one two begin =

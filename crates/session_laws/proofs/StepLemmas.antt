@@ -10,7 +10,7 @@ use Rattle.delivery_duties.specs.declared.outcome.Outcome.TheVariants.{Accepted,
 use Rattle.delivery_duties.specs.declared.outcome.Fate.{Fate}
 use Rattle.delivery_queues.specs.Queues.{Queue}
 use Rattle.delivery_duties.specs.Duties.{Duties, IsNext, NoneDue, IsNoLater, pending_row, marked_row}
-use Rattle.router_core.specs.Batch.{Batch}
+use Rattle.router_requests.specs.Batch.{Batch}
 use Rattle.router_core.specs.Tables.{Tables, moment_at, is_full, number_limit}
 use Rattle.router_core.specs.Steps.{claiming, record_of, fate_after}
 use Rattle.courier_run.specs.declared.stepped.Stop.{Stop as Why}
@@ -67,7 +67,7 @@ one_claim t reading c d x y =
     same r q (inr first) (inr second) = omega (arith, first.1, second.1)
 
 claim_by : (s : State) (p : Placed) (c : Claim) (moment : ℕ) → RunsAct s (makes p) → Claims p c moment → IsClaimBy s p.turn c
-claim_by s p c moment runs claims = subst (IsTurnFor s p.turn) claims.0 runs.1
+claim_by s p c moment runs claims = subst (IsTurnFor s p.turn) claims.0 runs.1.made_for
 
 -- a claim from one state might be made from the other, with the same clock
 claim_there : (s t : State) (q : Placed) (d : Claim) (r r2 : ℕ) → IsSameState s t → r2 ≡ r → RunsAct t (makes q) → Claims q d (moment_of r2)
@@ -124,8 +124,8 @@ same_record : (s t : State) (p q : Placed) (c : Claim) (o : Outcome) (f g : Fate
     → Records p (record { claim = c; outcome = o; fate = f }) → Records q (record { claim = c; outcome = o; fate = g })
     → (g ≡ f) × IsSameState (after_turn p.turn s) (after_turn q.turn t) × (unnamed q.turn ≡ unnamed p.turn)
 same_record s t p q c o f g same runs runs2 one two =
-    let a : IsRecordBy s p.turn (record { claim = c; outcome = one.0; fate = f }) = subst (IsTurnFor s p.turn) one.2 runs.1 in
-    let b : IsRecordBy t q.turn (record { claim = c; outcome = two.0; fate = g }) = subst (IsTurnFor t q.turn) two.2 runs2.1 in
+    let a : IsRecordBy s p.turn (record { claim = c; outcome = one.0; fate = f }) = subst (IsTurnFor s p.turn) one.2 runs.1.made_for in
+    let b : IsRecordBy t q.turn (record { claim = c; outcome = two.0; fate = g }) = subst (IsTurnFor t q.turn) two.2 runs2.1.made_for in
     let outcome : two.0 ≡ one.0 = one_recorded s.tables.duties.queues c o one.0 two.0 a.fits
     (subst (λ z. IsOutcome z.duties.queues c two.0) same.tables b.fits) one.1 two.1 in
     let row : b.row ≡ a.row = some_same (sym b.there ∙ ap (λ z. pending_row c.number z.duties) same.tables ∙ a.there) in
@@ -164,7 +164,7 @@ never_limited : (s : State) (p q : Placed) (c : Claim) (moment : ℕ) → RunsAc
 never_limited s p q c moment first second claims back =
     let t = s.tables in
     let tables : (after_turn p.turn s).tables ≡ claiming c.number t = ap (λ ask. (after_ask p.turn ask s).tables) claims.0 in
-    let full : is_full (after_turn p.turn s).tables ≡ true = (subst (IsTurnFor (after_turn p.turn s) q.turn) back second.1).2 in
+    let full : is_full (after_turn p.turn s).tables ≡ true = (subst (IsTurnFor (after_turn p.turn s) q.turn) back second.1.made_for).2 in
     let free : is_full (after_turn p.turn s).tables ≡ false =
     ap is_full tables ∙ ap (λ n. nat_le number_limit t.entries || nat_le number_limit n) (created (pending_row c.number t.duties) t.duties)
     ∙ (claim_by s p c moment first claims).numbered in

@@ -1,10 +1,13 @@
 //! What no request shows of the tables after a session: which targets a replay has, the moment, and which values threads share or pass
 //! on. What requests show is in router_core.rows.
+use archive_keep::EventRef;
 use bus_host::{NoDisk, NoGate};
 use event_shape::{DEFAULT_BUS, Event};
-use router_core::{Errand, SeenTargets, Tables, see_plain_event};
+use replay_run::{NewReplay, Replays, Rest, Stepped};
+use router_core::{Errand, Tables};
 use router_disk::{LinkFault, MemClock, MemLink, MemSink, MemSource};
 use router_history::{Book, Machine};
+use router_requests::{SeenTargets, see_plain_event};
 use router_sessions::serve_session;
 use rule_table::RuleSet;
 use rule_targets::SharedInput;
@@ -168,6 +171,7 @@ fn cross_threads() {
     may_be_shared::<SharedRow>();
     may_be_shared::<SharedText>();
     may_be_shared::<SharedInput>();
+    may_be_shared::<EventRef>();
 }
 
 /// Accepts only types whose values may move between threads.
@@ -177,6 +181,10 @@ fn may_move<T: Send>() {}
 fn move_between_threads() {
     may_move::<Tables>();
     may_move::<Errand>();
+    may_move::<Replays>();
+    may_move::<NewReplay>();
+    may_move::<Stepped>();
+    may_move::<Rest>();
 }
 
 #[test]

@@ -148,6 +148,15 @@ fn a_delivery_has_the_reading_of_its_own_step(rt: HostRuntime) {
     meet(&rt, rt.alloc(), row);
 }
 
+// The replay starts before there is a rule, so the steps alone make deliveries. The message that asks for the steps has a reading, and so has
+// each of the two steps, which their texts show, and the look that finds no further one.
+#[test]
+fn a_step_of_a_replay_has_a_reading_of_its_own(rt: HostRuntime) {
+    let row =
+        "queue archive events replay rule stamp steps both-delivered peek-stamps|||||1700000000 1700000000 1700000000 1700000000 1700000000 1700000000 1700000000 1700000001 1700000003 1700000004|Closed 0 0|=queue archive events replay rule stamp steps both-delivered peek-stamps";
+    meet(&rt, rt.alloc(), row);
+}
+
 #[test]
 fn a_reading_past_the_last_moment_counts_as_the_last_moment(rt: HostRuntime) {
     let row =

@@ -1,8 +1,8 @@
--- Acts of a worker from the beginning of a history. What a worker did, and then a session: `done_session`; delivery steps: `done_steps`; a look:
+-- Acts of a worker from the beginning of a history. What a worker did, and then a session: `done_session`; delivery steps: `done_steps`; steps of replays: `done_repeats`; a look:
 -- `done_looked`; a reading: `done_read`. Several of these: `goes_again`, `goes_beside`, `stays_beside`. A look, as the hall shows it:
 -- `look_learns`, `stops_if`.
 use Rattle.std.proofs.Common.{◌≡◌, ℕ, ◌≤◌, List, [], ◌∷◌, ◌++◌, Some, None, refl, sym, ap, ◌∙◌, map, subst, arith, append_assoc, append-nil}
-use Rattle.std.specs.Prelude.{Bool, true, false, not, MatchBool}
+use Rattle.std.specs.Prelude.{Bool, true, false, not, MatchBool, Result}
 use Rattle.std.proofs.lemmas.Bool.{true≢false}
 use Rattle.router_core.specs.Tables.{first_tables}
 use Rattle.courier_run.specs.Act.{reads, ticks, looks, makes, tries, writes}
@@ -21,7 +21,7 @@ use Rattle.router_history.specs.declared.history.Turn.{Turn as CodeTurn}
 use Rattle.router_history.specs.Book.{turn_of}
 use Rattle.router_history.specs.Acts.{Makes}
 use Rattle.door_workers.specs.Serving.{Session}
-use Rattle.session_workers.specs.Jobs.{maker, session_by, Jobs, serves, steps, looks_on, reads_clock, HasDone, ServesOne, GoesOn, jobs_later}
+use Rattle.session_workers.specs.Jobs.{maker, session_by, Jobs, serves, steps, repeats, looks_on, reads_clock, HasDone, ServesOne, GoesOn, jobs_later}
 use Rattle.std.proofs.lemmas.List.{map-append, append_cancel_left}
 use Rattle.std.proofs.lemmas.List.Elements.{filter-append, All-nil, All-cons}
 use Rattle.turn_book.specs.Rule as book
@@ -32,6 +32,9 @@ use Rattle.courier_run.specs.declared.stepped.Stepped.{Stepped}
 use Rattle.message_streams.specs.declared.farewell.SessionEnd.{SessionEnd}
 use Rattle.router_sessions.specs.Desk.{Known, seen_by, turns_seen, number_of, seat_of, SeesMore}
 use Rattle.router_sessions.specs.Delivery.{Delivers}
+use Rattle.router_sessions.specs.Repeating.{RepeatsFrom}
+use Rattle.step_run.specs.declared.fault.StepsFault.{StepsFault}
+use Rattle.router_sessions.proofs.RepeatLemmas.{repeats_go}
 use Rattle.router_history.specs.Session.{IsSession}
 use Rattle.router_history.specs.Visit.{is_cut}
 use Rattle.router_sessions.proofs.SessionLemmas.{unlooked}
@@ -149,6 +152,16 @@ module _ {I O : Type 0} (gave : I → List (List ℕ)) (wrote : O → List ℕ) 
   done_steps old new budget before after made h d = λ lent sessions w.
       done_joined (seat_of None old) lent before after sessions sessions (seen_by old) (seen_by new) d.acts w h d.makes d.goes
       (λ acts jobs. steps acts d.acts sessions budget made.turned made.stop jobs d.steps d.makes.named)
+
+  -- and then steps of replays, during which the link does nothing
+  pub done_repeats : {V : Type 0} (old new : Known V) (budget : ℕ) (gave_old gave_new : List ℕ) (answered : List Exchange) (faults : ℕ)
+      (result : Result ℕ StepsFault) → IsBook (turns_seen new)
+      → RepeatsFrom (seat_of None old) budget (turns_seen old) (turns_seen new) gave_old gave_new result
+      → GoesOn gave wrote (number_of old) (outside gave_old answered faults) (outside gave_new answered faults) (seen_by old) (seen_by new)
+  done_repeats old new budget gave_old gave_new answered faults result h d = λ lent sessions w.
+      done_joined (seat_of None old) lent (outside gave_old answered faults) (outside gave_new answered faults) sessions sessions (seen_by old) (seen_by new)
+      d.acts w h d.makes (repeats_go budget d.acts result gave_old gave_new answered faults d.steps d.readings)
+      (λ acts jobs. repeats acts d.acts sessions budget result jobs d.steps d.makes.named)
 
   -- and then a look
   pub done_looked : {V : Type 0} (old new : Known V) (s : State) (shown : Outside) → IsBook (turns_seen new)

@@ -1,5 +1,5 @@
 -- What a worker of a door did, as one list of acts.
-use Rattle.std.specs.Prelude.{◌≡◌, ℕ, Bool, List, [], ◌∷◌, ◌++◌, map, All, Option, Some, None}
+use Rattle.std.specs.Prelude.{◌≡◌, ℕ, Bool, List, [], ◌∷◌, ◌++◌, map, All, Option, Some, None, Result}
 use Rattle.std.proofs.Common.{refl, sym, ap, ◌∙◌, subst, append-nil, append_assoc, cond, true, false}
 use Rattle.std.proofs.lemmas.List.{map-append, append_cancel_left}
 use Rattle.std.proofs.lemmas.List.Elements.{filter-append}
@@ -13,13 +13,14 @@ use Rattle.courier_run.specs.Act.{reads, ticks, looks, makes, tries, writes}
 use Rattle.courier_run.specs.Link.{Outside, outside, Goes}
 use Rattle.courier_run.specs.declared.turned.Turned.{Turned}
 use Rattle.courier_run.specs.declared.stepped.Stop.{Stop}
+use Rattle.step_run.specs.declared.fault.StepsFault.{StepsFault}
 use Rattle.router_history.specs.declared.history.Turn.{Turn}
 use Rattle.message_streams.specs.declared.farewell.SessionEnd.{SessionEnd}
 use Rattle.router_history.specs.declared.book.Seat.{Seat}
 use Rattle.router_history.specs.History as history
 use Rattle.router_history.specs.History.{State, Placed, begun, turns_by, state_of}
 use Rattle.router_history.specs.Book.{turn_of, IsBook}
-use Rattle.router_history.specs.Acts.{Act, Steps, Happens, IsNamed, Makes, world, Does}
+use Rattle.router_history.specs.Acts.{Act, Steps, Repeating, Happens, IsNamed, Makes, world, Does}
 use Rattle.router_history.specs.Session.{Ended}
 use Rattle.router_history.specs.Visit.{is_cut}
 
@@ -59,7 +60,8 @@ module _ {I O : Type 0} (gave : I → List (List ℕ)) (wrote : O → List ℕ) 
         (world (map turn_of s.before) (gave s.came.0) (wrote s.came.1) readings answered faults)
         (world turns (gave s.went.0) (wrote s.went.1) readings_new answered_new faults_new)
 
-  -- What a worker does, in the order of time: sessions; delivery steps, whose turns name no connection; a look or a reading between.
+  -- What a worker does, in the order of time: sessions; steps of deliveries and of replays, whose turns name no connection; a look or a reading
+  -- between.
   -- Shown by: quiet_makes_a_request.edit.
   pub data Jobs (known : List history.Turn) (n : ℕ) : List Act → List (Session I O Turn) → Type 0 where
     nothing : Jobs known n [] []
@@ -67,11 +69,13 @@ module _ {I O : Type 0} (gave : I → List (List ℕ)) (wrote : O → List ℕ) 
         → Jobs known n (acts ++ job) (sessions ++ s ∷ [])
     steps : (acts job : List Act) (sessions : List (Session I O Turn)) (budget : ℕ) (turned : Turned) (stop : Stop) → Jobs known n acts sessions
         → Steps budget job turned stop → All (IsNamed None) job → Jobs known n (acts ++ job) sessions
+    repeats : (acts job : List Act) (sessions : List (Session I O Turn)) (budget : ℕ) (result : Result ℕ StepsFault) → Jobs known n acts sessions
+        → Repeating budget job result → All (IsNamed None) job → Jobs known n (acts ++ job) sessions
     looks_on : (acts : List Act) (sessions : List (Session I O Turn)) (s : State) → Jobs known n acts sessions → Jobs known n (acts ++ looks s ∷ []) sessions
     reads_clock : (acts : List Act) (sessions : List (Session I O Turn)) (reading : ℕ) → Jobs known n acts sessions → Jobs known n (acts ++ ticks reading ∷ []) sessions
 
-  -- What a worker did through the pass with this number, which has seen these turns now: these sessions in order, and delivery steps between,
-  -- are all turns of its pass, and all that its clock and link did since they were lent.
+  -- What a worker did through the pass with this number, which has seen these turns now: these sessions in order, and steps of deliveries and
+  -- of replays between, are all turns of its pass, and all that its clock and link did since they were lent.
   -- Shown by: program_tests serve.rt: two_workers_serve_the_first_run; delivers_by_its_own_link.edit.
   pub record HasDone (n : ℕ) (lent now : Outside) (sessions : List (Session I O Turn)) (turns : List Turn) : Type 0 where
     pub acts : List Act
@@ -143,6 +147,8 @@ module _ {I O : Type 0} (gave : I → List (List ℕ)) (wrote : O → List ℕ) 
   }
   jobs_later seen turns n _ _ more (steps acts job sessions budget turned stop jobs is named) =
       steps acts job sessions budget turned stop (jobs_later seen turns n acts sessions more jobs) is named
+  jobs_later seen turns n _ _ more (repeats acts job sessions budget result jobs is named) =
+      repeats acts job sessions budget result (jobs_later seen turns n acts sessions more jobs) is named
   jobs_later seen turns n _ _ more (looks_on acts sessions s jobs) = looks_on acts sessions s (jobs_later seen turns n acts sessions more jobs)
   jobs_later seen turns n _ _ more (reads_clock acts sessions reading jobs) = reads_clock acts sessions reading (jobs_later seen turns n acts sessions more jobs)
 

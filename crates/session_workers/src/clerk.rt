@@ -1,7 +1,8 @@
 //! What the workers of a door do for the router.
-ghost use Rattle.std.specs.Prelude.{◌≡◌, MatchBool};
+ghost use Rattle.std.specs.Prelude.{◌≡◌, ℕ, List, MatchBool};
 ghost use Rattle.turn_book.specs.Rule.{Learns};
 ghost use Rattle.turn_book.specs.Passes.{view, IsFree, IsSamePass};
+ghost use Rattle.router_disk.specs.Link.{Exchange};
 ghost use Rattle.courier_run.specs.Link.{outside};
 ghost use Rattle.router_history.specs.Book.{IsBook, Rests};
 ghost use Rattle.router_sessions.specs.Desk.{turns_seen, number_of, seen_by};
@@ -14,12 +15,12 @@ use courier_run::Stop;
 use door_workers::{Seating, Work};
 use router_disk::{Clock, Disk, Link, Sink, Source};
 use router_history::{Book, was_cut};
-use router_sessions::{look, serve_quiet, serve_session};
+use router_sessions::{look, serve_quiet, serve_session, step_quiet};
 use std::alloc::Global;
 use std::sync::Wait;
 use turn_book::{Hall, Pass, Story};
 
-/// The number of delivery steps that a worker makes before it knocks again.
+/// The number of delivery steps that a worker makes before it knocks again, and that of steps of replays.
 const STEPS: u32 = 1_000;
 
 /// Serves a session by one closure, says by another whether a further one may be served, and does the other work by the third. In a method
@@ -103,16 +104,15 @@ pub(crate) fn converse<J: Disk, I: Source, O: Sink, Rt: Wait + Sync, L: Link, C:
     was_cut(end)
 }
 
-/// Makes delivery steps for a while, if a place is free. The worker has no place during a send, which holds no turn. `I` and `O` are the
-/// streams of the sessions that the worker served before.
-pub(crate) fn deliver_in_a_place<
-    J: Disk,
-    I: Source,
-    O: Sink,
-    Rt: Wait + Sync,
-    L: Placing,
-    C: Clock,
->(rt: &Rt, alloc: Global, own: &mut (L, C), hall: &Hall<Book<J>>, pass: &mut Pass<Book<J>>)
+/// Makes delivery steps for a while, and then steps of replays, if a place is free. The worker has no place during a send, which holds no
+/// turn. `I` and `O` are the streams of the sessions that the worker served before.
+pub(crate) fn work_in_a_place<J: Disk, I: Source, O: Sink, Rt: Wait + Sync, L: Placing, C: Clock>(
+    rt: &Rt,
+    alloc: Global,
+    own: &mut (L, C),
+    hall: &Hall<Book<J>>,
+    pass: &mut Pass<Book<J>>,
+)
     requires here { pass.old.seat.table_id ≡ hall.now.table.shared.table_id }
     requires free { IsFree pass.old.seat }
     requires rests { OwesNothing (number_of pass.old.seat) (seen_by pass.old.seat) }
@@ -122,7 +122,9 @@ pub(crate) fn deliver_in_a_place<
         (seen_by pass.old.seat) (seen_by pass.new.seat) }
 {
     if own.0.enter() {
+        look(rt, alloc, hall, pass);
         deliver_for_a_while::<J, I, O, Rt, L, C>(rt, alloc, &mut own.1, &mut own.0, hall, pass);
+        step_for_a_while::<J, I, O, Rt, C>(rt, alloc, &mut own.1, hall, pass);
         own.0.leave();
     }
 }
@@ -139,13 +141,14 @@ fn deliver_for_a_while<J: Disk, I: Source, O: Sink, Rt: Wait + Sync, L: Link, C:
 )
     requires here { pass.old.seat.table_id ≡ hall.now.table.shared.table_id }
     requires free { IsFree pass.old.seat }
-    requires rests { OwesNothing (number_of pass.old.seat) (seen_by pass.old.seat) }
+    requires book { IsBook (turns_seen pass.old.seat) }
+    requires rests { Rests (number_of pass.old.seat) (turns_seen pass.old.seat) }
     ensures pass { IsSamePass pass.old.seat pass.new.seat × IsFree pass.new.seat }
-    ensures rests { OwesNothing (number_of pass.new.seat) (seen_by pass.new.seat) }
+    ensures book { IsBook (turns_seen pass.new.seat) }
+    ensures rests { Rests (number_of pass.old.seat) (turns_seen pass.new.seat) }
     ensures goes_on { GoesOn I.gave O.wrote (number_of pass.old.seat) (outside (C.gave clock.old) (L.exchanges link.old) (L.faults link.old))
         (outside (C.gave clock.new) (L.exchanges link.new) (L.faults link.new)) (seen_by pass.old.seat) (seen_by pass.new.seat) }
 {
-    look(rt, alloc, hall, pass);
     let begun = clock.now();
     for _ in 0..STEPS {
         if !deliver_once::<J, I, O, Rt, L, C>(rt, alloc, clock, begun, link, hall, pass) {
@@ -178,6 +181,58 @@ fn deliver_once<J: Disk, I: Source, O: Sink, Rt: Wait + Sync, L: Link, C: Clock>
     match stepped.stop {
         Stop::Spent | Stop::Idle => stepped.turned.attempts != 0 && clock.now() == begun,
         Stop::Full | Stop::Broken | Stop::NoMemory => false,
+    }
+}
+
+/// Makes steps of replays until none is made, a fault comes, `STEPS` were made, or the second in which it began is over. Its turns name no
+/// connection.
+fn step_for_a_while<J: Disk, I: Source, O: Sink, Rt: Wait + Sync, C: Clock>(
+    rt: &Rt,
+    alloc: Global,
+    clock: &mut C,
+    hall: &Hall<Book<J>>,
+    pass: &mut Pass<Book<J>>,
+)
+    requires here { pass.old.seat.table_id ≡ hall.now.table.shared.table_id }
+    requires free { IsFree pass.old.seat }
+    requires book { IsBook (turns_seen pass.old.seat) }
+    requires rests { Rests (number_of pass.old.seat) (turns_seen pass.old.seat) }
+    ensures pass { IsSamePass pass.old.seat pass.new.seat × IsFree pass.new.seat }
+    ensures book { IsBook (turns_seen pass.new.seat) }
+    ensures rests { Rests (number_of pass.old.seat) (turns_seen pass.new.seat) }
+    ensures goes_on { (answered : List Exchange) (faults : ℕ) → GoesOn I.gave O.wrote (number_of pass.old.seat) (outside (C.gave clock.old) answered faults)
+        (outside (C.gave clock.new) answered faults) (seen_by pass.old.seat) (seen_by pass.new.seat) }
+{
+    let begun = clock.now();
+    for _ in 0..STEPS {
+        if !step_once::<J, I, O, Rt, C>(rt, alloc, clock, begun, hall, pass) {
+            return;
+        }
+    }
+}
+
+/// Makes at most one step of a replay. Returns whether it made one and the clock still reads `begun`.
+fn step_once<J: Disk, I: Source, O: Sink, Rt: Wait + Sync, C: Clock>(
+    rt: &Rt,
+    alloc: Global,
+    clock: &mut C,
+    begun: u64,
+    hall: &Hall<Book<J>>,
+    pass: &mut Pass<Book<J>>,
+) -> bool
+    requires here { pass.old.seat.table_id ≡ hall.now.table.shared.table_id }
+    requires free { IsFree pass.old.seat }
+    requires book { IsBook (turns_seen pass.old.seat) }
+    requires rests { Rests (number_of pass.old.seat) (turns_seen pass.old.seat) }
+    ensures pass { IsSamePass pass.old.seat pass.new.seat × IsFree pass.new.seat }
+    ensures book { IsBook (turns_seen pass.new.seat) }
+    ensures rests { Rests (number_of pass.old.seat) (turns_seen pass.new.seat) }
+    ensures goes_on { (answered : List Exchange) (faults : ℕ) → GoesOn I.gave O.wrote (number_of pass.old.seat) (outside (C.gave clock.old) answered faults)
+        (outside (C.gave clock.new) answered faults) (seen_by pass.old.seat) (seen_by pass.new.seat) }
+{
+    match step_quiet(rt, alloc, hall, pass, clock, 1) {
+        Ok(made) => made != 0 && clock.now() == begun,
+        Err(_fault) => false,
     }
 }
 

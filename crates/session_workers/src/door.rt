@@ -12,7 +12,7 @@ ghost use Rattle.router_history.specs.Visit.{IsVisit, OwesNothing, HasBroken};
 ghost use Rattle.session_workers.specs.Places.{lent_of};
 ghost use Rattle.session_workers.specs.Jobs.{maker, outside_of, session_by, did_by, ServesOne, GoesOn};
 
-use crate::clerk::{Clerk, converse, deliver_in_a_place, is_whole};
+use crate::clerk::{Clerk, converse, is_whole, work_in_a_place};
 use crate::places::{Placed, Places, Placing};
 use bus_host::{Door, Gate};
 use door_workers::{DoorEnd, Serving};
@@ -175,7 +175,7 @@ fn serve_placed<J: Disk, Rt: Wait + Threads + Sync, D: Door, L: Placing, C: Cloc
             ensures rests { OwesNothing (number_of pass.new.seat) (seen_by pass.new.seat) }
             ensures goes_on { GoesOn D.In.gave D.Out.wrote (number_of pass.old.seat) (outside_of C.gave L.exchanges L.faults own.old) (outside_of C.gave L.exchanges L.faults own.new)
                 (seen_by pass.old.seat) (seen_by pass.new.seat) }
-        { deliver_in_a_place::<J, D::In, D::Out, Rt, L, C>(rt, alloc, own, hall, pass) },
+        { work_in_a_place::<J, D::In, D::Out, Rt, L, C>(rt, alloc, own, hall, pass) },
     };
     let serving = door_workers::serve_door(rt, alloc, hall, pass, owns, door, connections, &clerk);
     look_after(rt, alloc, hall, pass, serving.end);

@@ -1,4 +1,4 @@
-//! The router's workers at a door: a session for each connection that comes, and delivery steps while none comes.
+//! The router's workers at a door: a session for each connection that comes, and steps of deliveries and of replays while none comes.
 #![tactic(auto)]
 
 mod clerk;

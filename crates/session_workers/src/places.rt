@@ -1,11 +1,11 @@
-//! Places for the workers that make turns of deliveries. No clause depends on them: they only bound how many there are at once.
+//! Places for the workers that make turns of deliveries and of replays. No clause depends on them: they only bound how many there are at once.
 ghost use Rattle.std.specs.Prelude.{◌≡◌, ◌++◌};
 
 use router_disk::{Link, LinkFault};
 use std::sync::Wait;
 use std::sync::atomic::{AtomicU64, Ordering};
 
-/// How many workers make turns of deliveries at once. More would only wait for each other, and sessions for them.
+/// How many workers make turns of deliveries and of replays at once. More would only wait for each other, and sessions for them.
 const MOST: u64 = 6;
 
 /// How often a worker tries to take a place that another one takes from it.

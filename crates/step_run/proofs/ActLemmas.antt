@@ -3,7 +3,7 @@ use Rattle.std.proofs.Common.{◌≡◌, ℕ, List, [], ◌++◌, refl, sym, ◌
 use Rattle.std.proofs.lemmas.Grind.{flat_map-append}
 use Rattle.step_run.specs.declared.fault.StepFault.{StepFault}
 use Rattle.step_run.specs.Act.{Act, readings_of, readings_in, book_acts_of, book_acts_in}
-use Rattle.step_run.specs.Step.{IsRefusal, full_at, out_of_memory}
+use Rattle.step_run.specs.Step.{IsRefusal, full_at, broken_at, broken_by, out_of_memory}
 
 module _ {Placed State Other : Type 0} where
   -- the turns and looks of acts, and of later ones
@@ -17,7 +17,9 @@ module _ {Placed State Other : Type 0} where
       ∙ ap (λ r. a ++ r) (sym (flat_map-append readings_of xs ys))
 
   -- a refusal is made of acts on the book alone
-  pub refused_by_book : (full : State → Type 0) (acts : List (Act Placed State Other)) (fault : StepFault) → IsRefusal full acts fault
-      → (book_acts_in acts ≡ acts) × (readings_in acts ≡ [])
-  refused_by_book full acts fault (full_at s is) = (refl, refl)
-  refused_by_book full acts fault (out_of_memory s) = (refl, refl)
+  pub refused_by_book : (breaks : Placed → Type 0) (full broken : State → Type 0) (acts : List (Act Placed State Other)) (fault : StepFault)
+      → IsRefusal breaks full broken acts fault → (book_acts_in acts ≡ acts) × (readings_in acts ≡ [])
+  refused_by_book breaks full broken acts fault (full_at s is) = (refl, refl)
+  refused_by_book breaks full broken acts fault (broken_at s is) = (refl, refl)
+  refused_by_book breaks full broken acts fault (broken_by p is) = (refl, refl)
+  refused_by_book breaks full broken acts fault (out_of_memory s) = (refl, refl)

@@ -33,11 +33,17 @@ pub trait StepBook {
     /// The turn makes a step at this moment of the clock.
     ghost steps: { Placed → ℕ → Type 0 };
 
+    /// The turn breaks the book, since a step at this moment could not be kept.
+    ghost breaks: { Placed → ℕ → Type 0 };
+
     /// There is no step to make at this moment.
     ghost idle: { State → ℕ → Type 0 };
 
     /// There is a step to make at this moment, and the number limit stops it.
     ghost full: { State → ℕ → Type 0 };
+
+    /// The book is broken, and below the number limit there is a step to make at this moment.
+    ghost broken: { State → ℕ → Type 0 };
 
     /// The ghost name of the value that the book borrows. No call changes it, so the lender of the book knows what it
     /// ends as.
@@ -53,5 +59,6 @@ pub trait StepBook {
             ((p : Placed) × did self.old self.new (makes p ∷ []) × steps p reading)
             ((s : State) × did self.old self.new (looks s ∷ []) × idle s reading)) }
         ensures refused { IfErr result (λ fault.
-            (acts : List (Act Placed State Other)) × did self.old self.new acts × IsRefusal (λ s. full s reading) acts fault) };
+            (acts : List (Act Placed State Other)) × did self.old self.new acts
+            × IsRefusal (λ p. breaks p reading) (λ s. full s reading) (λ s. broken s reading) acts fault) };
 }

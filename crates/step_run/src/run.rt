@@ -19,7 +19,7 @@ pub fn run_steps<B: StepBook, C: Clock>(
     ensures sound { B.sound book.new }
     ensures lender { B.lender book.new ≡ B.lender book.old }
     ensures stepped { (acts : List (Act B.Placed B.State B.Other)) × B.did book.old book.new (book_acts_in acts)
-        × Ran B.steps B.idle B.full budget acts result × (C.gave clock.new ≡ C.gave clock.old ++ readings_in acts) }
+        × Ran B.steps B.breaks B.idle B.full B.broken budget acts result × (C.gave clock.new ≡ C.gave clock.old ++ readings_in acts) }
 {
     let mut made = 0;
     while made < budget {
@@ -47,7 +47,7 @@ fn next_step<B: StepBook, C: Clock>(book: &mut B, clock: &mut C) -> Next
     ensures sound { B.sound book.new }
     ensures lender { B.lender book.new ≡ B.lender book.old }
     ensures made { (acts : List (Act B.Placed B.State B.Other)) × B.did book.old book.new (book_acts_in acts)
-        × IsNext B.steps B.idle B.full acts result × (C.gave clock.new ≡ C.gave clock.old ++ readings_in acts) }
+        × IsNext B.steps B.breaks B.idle B.full B.broken acts result × (C.gave clock.new ≡ C.gave clock.old ++ readings_in acts) }
 {
     let moment = read_clock(clock);
     match book.step(moment) {

@@ -17,4 +17,6 @@ mod test_journal;
 #[cfg(test)]
 mod test_journal_check;
 #[cfg(test)]
+mod test_router_core;
+#[cfg(test)]
 mod test_rule_table;

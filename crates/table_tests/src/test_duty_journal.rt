@@ -6,7 +6,7 @@ use delivery_duties::{NewDuty, Outcome};
 use duty_journal::{attempt_record, put_batch, take_batch};
 use json_text::{Bytes, Text};
 use replay_run::{RuleNames, TimeRange};
-use router_core::{AcceptedEvent, Batch, Entry, StartedReplay, SteppedReplay};
+use router_requests::{AcceptedEvent, Batch, Entry, StartedReplay, SteppedReplay};
 use shared_text::{SharedRow, SharedText, TargetRow};
 use std::alloc::Global;
 use std::test::Fail;
@@ -233,7 +233,7 @@ fn operation(alloc: Global, words: &str) -> Result<Entry, Fail> {
     }
 }
 
-fn batch(alloc: Global, words: &str) -> Result<Batch, Fail> {
+pub(crate) fn batch(alloc: Global, words: &str) -> Result<Batch, Fail> {
     let mut entries = Vec::new(alloc);
     entries.push(operation(alloc, words)?)?;
     Ok(Batch {

@@ -115,7 +115,7 @@ fn parts(alloc: Global, row: &str) -> Result<(Vec<u8>, &str, u64, u64), Fail> {
 }
 
 /// A disk with this file.
-fn disk_of(alloc: Global, file: &[u8]) -> Result<MemoryDisk, Fail>
+pub(crate) fn disk_of(alloc: Global, file: &[u8]) -> Result<MemoryDisk, Fail>
     ensures { IfOk result (λ disk. disk.calls ≡ []) }
 {
     match MemoryDisk::new(alloc, file, Vec::new(alloc)) {

@@ -23,6 +23,13 @@ pending|RouterLocal.DeliverDue|{}|{"Attempts":1,"Delivered":0,"DeadLettered":0,"
 peek|RouterLocal.PeekMessages|{"QueueName":"q"}|{"Messages":[{"Number":1,"Body":"{\"version\":\"0\",\"id\":\"00000000-0000-8000-8000-000000000001\",\"detail-type\":\"Order\",\"source\":\"shop.orders\",\"account\":\"111122223333\",\"time\":\"2023-11-14T22:13:20Z\",\"region\":\"us-east-1\",\"resources\":[],\"detail\":{\"total\":12.50}}","Attributes":{}}]}
 peek-last|RouterLocal.PeekMessages|{"QueueName":"q"}|{"Messages":[{"Number":1,"Body":"{\"version\":\"0\",\"id\":\"00000000-0000-8000-8000-000000000001\",\"detail-type\":\"Order\",\"source\":\"shop.orders\",\"account\":\"111122223333\",\"time\":\"9892-03-08T12:26:40Z\",\"region\":\"us-east-1\",\"resources\":[],\"detail\":{\"total\":12.50}}","Attributes":{}}]}
 peek-none|RouterLocal.PeekMessages|{"QueueName":"q"}|{"Messages":[]}
+archive|AWSEvents.CreateArchive|{"ArchiveName":"a","EventSourceArn":"arn:aws:events:us-east-1:111122223333:event-bus/default"}|{"ArchiveArn":"arn:aws:events:us-east-1:111122223333:archive/a","CreationTime":1700000000,"State":"ENABLED"}
+events|AWSEvents.PutEvents|{"Entries":[{"Source":"shop.orders","DetailType":"Order","Detail":"{}"},{"Source":"shop.orders","DetailType":"Order","Detail":"{}"}]}|{"FailedEntryCount":0,"Entries":[{"EventId":"00000000-0000-8000-8000-000000000001"},{"EventId":"00000000-0000-8000-8000-000000000002"}]}
+replay|AWSEvents.StartReplay|{"ReplayName":"p","EventSourceArn":"arn:aws:events:us-east-1:111122223333:archive/a","EventStartTime":1700000000,"EventEndTime":1700000000,"Destination":{"Arn":"arn:aws:events:us-east-1:111122223333:event-bus/default"}}|{"ReplayArn":"arn:aws:events:us-east-1:111122223333:replay/p","State":"RUNNING","ReplayStartTime":1700000000}
+stamp|AWSEvents.PutTargets|{"Rule":"r","Targets":[{"Id":"t","Arn":"arn:aws:sqs:us-east-1:111122223333:q","InputTransformer":{"InputTemplate":"<aws.events.event.ingestion-time>"}}]}|{"FailedEntryCount":0,"FailedEntries":[]}
+steps|RouterLocal.StepReplays|{}|{"Steps":2}
+both-delivered|RouterLocal.DeliverDue|{}|{"Attempts":2,"Delivered":2,"DeadLettered":0,"Dropped":0}
+peek-stamps|RouterLocal.PeekMessages|{"QueueName":"q"}|{"Messages":[{"Number":1,"Body":"\"2023-11-14T22:13:21Z\"","Attributes":{}},{"Number":2,"Body":"\"2023-11-14T22:13:23Z\"","Attributes":{}}]}
 "#;
 
 /// The reply named `failed`, to any message whose batch cannot be kept.

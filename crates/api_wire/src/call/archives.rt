@@ -2,7 +2,7 @@
 ghost use Rattle.std.specs.Prelude.{◌≡◌, Some, IfOk};
 ghost use Rattle.json_text.specs.Tree.{members_of};
 ghost use Rattle.json_text.specs.View.{pairs_of};
-ghost use Rattle.router_core.specs.View.{action_of};
+ghost use Rattle.router_requests.specs.View.{action_of};
 ghost use Rattle.api_members.specs.Refusal.{AreSound};
 ghost use Rattle.api_wire.specs.Call.{action_in, asked, creation_in, days_given};
 ghost use Rattle.api_wire.specs.declared.call.operation.Operation.TheVariants.{CreateArchive, UpdateArchive, DeleteArchive, DescribeArchive, ListArchives};
@@ -12,7 +12,7 @@ use super::pattern::pattern_given;
 use api_members::{bus_of_source, count_given, read_text, text_of};
 use api_replies::Member;
 use json_text::{Json, NoMemory, Text};
-use router_core::Action;
+use router_requests::Action;
 use std::alloc::Global;
 
 pub(super) fn create_archive(alloc: Global, members: &[(Text, Json)]) -> Result<Action, NoMemory>

@@ -3,7 +3,7 @@ ghost use Rattle.std.specs.Prelude.{ℕ, List, IfOk};
 ghost use Rattle.json_text.specs.Moment.{IsMoment};
 ghost use Rattle.json_text.specs.Tree.{members_of};
 ghost use Rattle.json_text.specs.View.{pairs_of};
-ghost use Rattle.router_core.specs.View.{action_of};
+ghost use Rattle.router_requests.specs.View.{action_of};
 ghost use Rattle.api_members.specs.Refusal.{AreSound};
 ghost use Rattle.api_wire.specs.Call.{asked, IsAction};
 ghost use Rattle.api_wire.specs.declared.call.operation.Operation.TheVariants.{PutEvents, TestEventPattern};
@@ -12,7 +12,7 @@ use super::pattern::read_pattern;
 use api_members::{check_entries, read_entries, read_event, text_of, total_size, values_in};
 use api_replies::Member;
 use json_text::{Json, NoMemory, Text};
-use router_core::Action;
+use router_requests::Action;
 use std::alloc::Global;
 
 pub(super) fn put_events(

@@ -4,7 +4,7 @@ ghost use Rattle.std.specs.Option.{option_map, option_copied};
 ghost use Rattle.json_text.specs.Tree.{members_of};
 ghost use Rattle.json_text.specs.View.{tree_of, pairs_of};
 ghost use Rattle.api_members.specs.Refusal.{AreSound, IsFirstRefusal, RefusedFor};
-ghost use Rattle.api_wire.specs.Call.{asked, permission_asked, local_operation, archive_operation, named_operation, operation_of, MayCall};
+ghost use Rattle.api_wire.specs.Call.{asked, permission_asked, local_operation, replay_operation, archive_operation, named_operation, operation_of, MayCall};
 
 use api_members::{Asked, CallFault, Syntax, check_members, given};
 use api_replies::Member;
@@ -38,11 +38,16 @@ pub enum Operation {
     DeleteArchive,
     DescribeArchive,
     ListArchives,
+    StartReplay,
+    CancelReplay,
+    DescribeReplay,
+    ListReplays,
     CreateQueue,
     DeleteQueue,
     PeekMessages,
     DeleteMessages,
     DeliverDue,
+    StepReplays,
     DutyCounts,
 }
 
@@ -104,6 +109,19 @@ fn archive_operation(name: &str) -> Option<Operation>
         "AWSEvents.DeleteArchive" => Some(Operation::DeleteArchive),
         "AWSEvents.DescribeArchive" => Some(Operation::DescribeArchive),
         "AWSEvents.ListArchives" => Some(Operation::ListArchives),
+        _ => replay_operation(name),
+    }
+}
+
+/// The operations on replays.
+fn replay_operation(name: &str) -> Option<Operation>
+    ensures { result ≡ replay_operation name.now }
+{
+    match name {
+        "AWSEvents.StartReplay" => Some(Operation::StartReplay),
+        "AWSEvents.CancelReplay" => Some(Operation::CancelReplay),
+        "AWSEvents.DescribeReplay" => Some(Operation::DescribeReplay),
+        "AWSEvents.ListReplays" => Some(Operation::ListReplays),
         _ => local_operation(name),
     }
 }
@@ -118,6 +136,7 @@ fn local_operation(name: &str) -> Option<Operation>
         "RouterLocal.PeekMessages" => Some(Operation::PeekMessages),
         "RouterLocal.DeleteMessages" => Some(Operation::DeleteMessages),
         "RouterLocal.DeliverDue" => Some(Operation::DeliverDue),
+        "RouterLocal.StepReplays" => Some(Operation::StepReplays),
         "RouterLocal.DutyCounts" => Some(Operation::DutyCounts),
         _ => None,
     }
@@ -128,6 +147,12 @@ pub(super) const LAST_NUMBER: u64 = 281_474_976_710_655;
 
 /// The most days for which an archive keeps events.
 pub(super) const MOST_DAYS: u64 = 2_147_483_647;
+
+/// How many steps one call makes at most.
+pub(super) const BUDGET: u32 = 1_000;
+
+/// How many it makes at most if none is given.
+pub(super) const DEFAULT_BUDGET: u32 = 100;
 
 /// A member that names a bus; without it the bus is `default`.
 const BUS: Asked = Asked::Optional(Member::EventBusName, Syntax::Bus);
@@ -150,10 +175,12 @@ const ARCHIVE: Asked = Asked::Required(Member::ArchiveName, Syntax::ArchiveName)
 /// The pattern of an archive, which may keep all events.
 const ARCHIVE_PATTERN: Asked = Asked::Optional(Member::EventPattern, Syntax::Pattern);
 
+const REPLAY: Asked = Asked::Required(Member::ReplayName, Syntax::ReplayName);
+
 /// A Condition is not served.
 const CONDITION: Asked = Asked::Optional(Member::Condition, Syntax::Unserved);
 
-/// How many messages are shown, or attempts made.
+/// How many messages are shown, or steps made.
 const UP_TO_1000: Syntax = Syntax::Count {
     least: 1,
     most: 1_000,
@@ -235,10 +262,25 @@ fn asked(operation: Operation, members: &[(Text, Json)]) -> &'static [Asked]
             Asked::Optional(Member::EventSourceArn, Syntax::AnyText),
             Asked::Optional(Member::State, Syntax::ArchiveState),
         ],
+        Operation::StartReplay => &[
+            REPLAY,
+            Asked::Required(Member::EventSourceArn, Syntax::ArchiveArn),
+            Asked::Required(Member::EventStartTime, Syntax::Time),
+            Asked::Required(Member::EventEndTime, Syntax::Time),
+            Asked::Required(Member::Destination, Syntax::Destination),
+        ],
+        Operation::CancelReplay | Operation::DescribeReplay => &[REPLAY],
+        Operation::ListReplays => &[
+            PREFIX,
+            Asked::Optional(Member::EventSourceArn, Syntax::AnyText),
+            Asked::Optional(Member::State, Syntax::ReplayState),
+        ],
         Operation::CreateQueue | Operation::DeleteQueue => &[QUEUE],
         Operation::PeekMessages => &[QUEUE, Asked::Optional(Member::Limit, UP_TO_1000)],
         Operation::DeleteMessages => &[QUEUE, Asked::Required(Member::Through, NUMBER)],
-        Operation::DeliverDue => &[Asked::Optional(Member::Budget, UP_TO_1000)],
+        Operation::DeliverDue | Operation::StepReplays => {
+            &[Asked::Optional(Member::Budget, UP_TO_1000)]
+        }
         Operation::DutyCounts => &[],
     }
 }

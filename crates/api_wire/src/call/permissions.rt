@@ -3,7 +3,7 @@ ghost use Rattle.std.specs.Prelude.{◌≡◌, Some, IfOk};
 ghost use Rattle.std.specs.Option.{option_map, option_copied};
 ghost use Rattle.json_text.specs.Tree.{members_of};
 ghost use Rattle.json_text.specs.View.{tree_of, pairs_of};
-ghost use Rattle.router_core.specs.View.{action_of};
+ghost use Rattle.router_requests.specs.View.{action_of};
 ghost use Rattle.api_replies.specs.declared.member.Member.TheVariants.{Policy as PolicyMember};
 ghost use Rattle.api_members.specs.Given.{given};
 ghost use Rattle.api_members.specs.Refusal.{AreSound};
@@ -15,7 +15,7 @@ use api_members::{bus_given, given, read_text, text_of};
 use api_replies::Member;
 use bus_policy::{Policy, PolicyFault};
 use json_text::{Json, NoMemory, Text};
-use router_core::Action;
+use router_requests::Action;
 use rule_table::StoredPolicy;
 use std::alloc::Global;
 

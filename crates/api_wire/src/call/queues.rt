@@ -2,16 +2,16 @@
 ghost use Rattle.std.specs.Prelude.{◌≡◌, Some, IfOk};
 ghost use Rattle.json_text.specs.Tree.{Members, members_of};
 ghost use Rattle.json_text.specs.View.{pairs_of};
-ghost use Rattle.router_core.specs.View.{action_of};
+ghost use Rattle.router_requests.specs.View.{action_of};
 ghost use Rattle.api_members.specs.Refusal.{AreSound};
 ghost use Rattle.api_wire.specs.Call.{action_in, asked};
 ghost use Rattle.api_wire.specs.declared.call.operation.Operation.TheVariants.{CreateQueue, DeleteQueue, PeekMessages, DeleteMessages, DeliverDue, DutyCounts};
 
-use super::operation::LAST_NUMBER;
+use super::operation::{BUDGET, DEFAULT_BUDGET, LAST_NUMBER};
 use api_members::{count_given, count_or, text_of};
 use api_replies::Member;
 use json_text::{Json, NoMemory, Text};
-use router_core::Action;
+use router_requests::Action;
 use std::alloc::Global;
 
 /// How many messages one call shows at most.
@@ -19,12 +19,6 @@ const LIMIT: u32 = 1_000;
 
 /// How many it shows if none is given.
 const DEFAULT_LIMIT: u32 = 10;
-
-/// How many steps one call makes at most.
-const BUDGET: u32 = 1_000;
-
-/// How many it makes at most if none is given.
-const DEFAULT_BUDGET: u32 = 100;
 
 pub(super) fn create_queue(alloc: Global, members: &[(Text, Json)]) -> Result<Action, NoMemory>
     ensures { IfOk result (λ a. action_in CreateQueue (members_of (pairs_of members.now)) ≡ Some (action_of a)) }

@@ -3,7 +3,7 @@ ghost use Rattle.std.specs.Prelude.{◌≡◌, Some, IfOk};
 ghost use Rattle.std.specs.Option.{option_copied};
 ghost use Rattle.json_text.specs.Tree.{members_of};
 ghost use Rattle.json_text.specs.View.{pairs_of};
-ghost use Rattle.router_core.specs.View.{action_of};
+ghost use Rattle.router_requests.specs.View.{action_of};
 ghost use Rattle.api_members.specs.Refusal.{AreSound};
 ghost use Rattle.api_wire.specs.Call.{action_in, asked, is_enabled};
 ghost use Rattle.api_wire.specs.declared.call.operation.Operation.TheVariants.{PutRule, DeleteRule, EnableRule, DisableRule, DescribeRule, ListRules};
@@ -12,7 +12,7 @@ use super::pattern::read_pattern;
 use api_members::{bus_given, read_text, text_given, text_of};
 use api_replies::Member;
 use json_text::{Json, NoMemory, Text};
-use router_core::Action;
+use router_requests::Action;
 use std::alloc::Global;
 
 pub(super) fn put_rule(alloc: Global, members: &[(Text, Json)]) -> Result<Action, NoMemory>

@@ -3,7 +3,7 @@ ghost use Rattle.std.specs.Prelude.{◌≡◌, ℕ, List, Some, IfOk};
 ghost use Rattle.std.specs.Option.{option_map, option_copied};
 ghost use Rattle.json_text.specs.Tree.{members_of};
 ghost use Rattle.json_text.specs.View.{tree_of, trees_of, pairs_of};
-ghost use Rattle.router_core.specs.View.{action_of};
+ghost use Rattle.router_requests.specs.View.{action_of};
 ghost use Rattle.api_wire.specs.Call.{action_in, retry_given, IsTargetWith, AreTargets, IsAction};
 ghost use Rattle.api_wire.specs.declared.call.operation.Operation.TheVariants.{PutTargets, RemoveTargets, ListTargetsByRule, ListRuleNamesByTarget};
 
@@ -13,7 +13,7 @@ use api_members::{
 };
 use api_replies::Member;
 use json_text::{Json, NoMemory, Text};
-use router_core::Action;
+use router_requests::Action;
 use rule_targets::{AskedRetry, AskedTarget};
 use std::alloc::Global;
 

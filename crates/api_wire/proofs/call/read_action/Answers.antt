@@ -68,6 +68,18 @@ returns-in-DescribeArchive c = rw c.in-DescribeArchive.is c.describe_archive.ens
 pub returns-in-ListArchives : goal.returns-in-ListArchives
 returns-in-ListArchives c = rw c.in-ListArchives.is c.list_archives.ensures
 
+pub returns-in-StartReplay : goal.returns-in-StartReplay
+returns-in-StartReplay c = rw c.in-StartReplay.is (c.start_replay.ensures c.args.caller.now c.args.reading)
+
+pub returns-in-CancelReplay : goal.returns-in-CancelReplay
+returns-in-CancelReplay c = rw c.in-CancelReplay.is c.cancel_replay.ensures
+
+pub returns-in-DescribeReplay : goal.returns-in-DescribeReplay
+returns-in-DescribeReplay c = rw c.in-DescribeReplay.is c.describe_replay.ensures
+
+pub returns-in-ListReplays : goal.returns-in-ListReplays
+returns-in-ListReplays c = rw c.in-ListReplays.is c.list_replays.ensures
+
 pub returns-in-CreateQueue : goal.returns-in-CreateQueue
 returns-in-CreateQueue c = rw c.in-CreateQueue.is c.create_queue.ensures
 
@@ -82,6 +94,9 @@ returns-in-DeleteMessages c = rw c.in-DeleteMessages.is c.delete_messages.ensure
 
 pub returns-in-DeliverDue : goal.returns-in-DeliverDue
 returns-in-DeliverDue c = rw c.in-DeliverDue.is c.deliver_due.ensures
+
+pub returns-in-StepReplays : goal.returns-in-StepReplays
+returns-in-StepReplays c = rw c.in-StepReplays.is c.step_replays.ensures
 
 pub returns-in-DutyCounts : goal.returns-in-DutyCounts
 returns-in-DutyCounts c = rw c.in-DutyCounts.is (c.duty_counts.ensures (members_of (pairs_of c.args.members.now)))

@@ -7,7 +7,7 @@ use Rattle.json_text.specs.View.{pairs_of}
 use Rattle.event_shape.specs.Names.{is_account}
 use Rattle.api_replies.specs.declared.cause.Cause.TheVariants as cause
 use Rattle.api_members.specs.Refusal.{IsFirstRefusal, RefusedFor}
-use Rattle.router_core.specs.View.{request_of}
+use Rattle.router_requests.specs.View.{request_of}
 use Rattle.api_wire.specs.Call.{caller_of, MayCall, asked, IsBody, IsAsked}
 use Rattle.api_wire.specs.CallAnswers.{IsFault}
 use Rattle.api_wire.proofs.CallLemmas.{one_request, only_memory, named_refused, members_fault}

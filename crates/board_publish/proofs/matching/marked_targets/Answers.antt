@@ -1,7 +1,7 @@
 use Rattle.std.proofs.Common.{◌≡◌, List, [], ◌∷◌, ◌++◌, length, true, false, get_or, sym, ap, ◌∙◌, append-nil}
 use Rattle.std.proofs.lemmas.Option.{get_or_from_slice_get}
 use Rattle.rule_table.specs.RuleSet.{rule_at}
-use Rattle.router_core.specs.declared.seen.SeenTarget.{SeenTarget}
+use Rattle.router_requests.specs.declared.seen.SeenTarget.{SeenTarget}
 use Rattle.board_publish.specs.Found.{found_for, seen_of}
 use Rattle.board_publish.proofs.FoundLemmas.{found_more, found_on, found_off}
 use Rattle.board_publish.proofs.NumberLemmas.{next_below, next_done}

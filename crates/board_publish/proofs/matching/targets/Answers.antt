@@ -3,8 +3,8 @@ use Rattle.std.proofs.lemmas.Result.{IfOk-weaker}
 use Rattle.json_text.specs.View.{tree_of}
 use Rattle.rule_table.specs.RuleSet.{rules_of}
 use Rattle.rule_automaton.specs.View.{rules_of as patterns_of}
-use Rattle.router_core.specs.Matching.{AreMatched}
-use Rattle.router_core.specs.declared.seen.SeenTarget.{SeenTarget}
+use Rattle.router_requests.specs.Matching.{AreMatched}
+use Rattle.router_requests.specs.declared.seen.SeenTarget.{SeenTarget}
 use Rattle.board_publish.specs.MatcherView.{Matcher}
 use Rattle.board_publish.specs.Matchers.{HasRule, enabled_at}
 use Rattle.board_publish.proofs.FoundLemmas.{found_matched}

@@ -1,9 +1,9 @@
 use Rattle.std.proofs.Common.{◌≡◌, ℕ, ◌+◌, ◌-◌, ◌≤◌, ◌^◌, ◌++◌, cond, List, [], ◌∷◌, length, map, min, take, drop, ap, sym, subst, ◌∙◌, arith}
 use Rattle.std.specs.Prelude.{OnOk}
 use Rattle.rule_table.specs.RuleSet.{RuleSet}
-use Rattle.router_core.specs.Batch.{Entry}
+use Rattle.router_requests.specs.Batch.{Entry}
 use Rattle.router_core.specs.Ready.{ArePartsOf}
-use Rattle.router_core.specs.View.{accepted_of, entry_of}
+use Rattle.router_requests.specs.View.{accepted_of, entry_of}
 use Rattle.router_core.specs.declared.ready.Part.{Part}
 use Rattle.duty_journal.specs.Redo.{AreNextEvents}
 use Rattle.duty_journal.proofs.RedoLemmas.{first_entry, no_error, step_ok}

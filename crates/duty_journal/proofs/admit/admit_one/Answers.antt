@@ -1,8 +1,8 @@
 use Rattle.std.proofs.Common.{◌≡◌, Err, ap, sym, subst}
-use Rattle.router_core.specs.View.{accepted_of, entry_of}
+use Rattle.router_requests.specs.View.{accepted_of, entry_of}
 use Rattle.router_core.specs.Admitted.{IsEntryAdmitted}
 use Rattle.router_core.specs.Ready.{IsPartOf, IsMadeOn}
-use Rattle.router_core.specs.declared.batch.Entry.{Entry}
+use Rattle.router_requests.specs.declared.batch.Entry.{Entry}
 use Rattle.duty_journal.specs.declared.fault.ReplayFault.TheVariants.{NotAdmitted}
 use Rattle.duty_journal.proofs.RedoLemmas.{event_from}
 use Rattle.duty_journal.proofs.admit.admit_one.Goals as goal

@@ -1,6 +1,6 @@
 use Rattle.std.proofs.Common.{refl}
 use Rattle.rule_table.specs.WellFormed.{IsSpelled}
-use Rattle.router_core.specs.Batch.{control}
+use Rattle.router_requests.specs.Batch.{control}
 use Rattle.entry_bytes.specs.ChangeReading.{change_at}
 use Rattle.duty_journal.specs.Batch.{HasValidTexts}
 use Rattle.duty_journal.proofs.Finding.{made_none}

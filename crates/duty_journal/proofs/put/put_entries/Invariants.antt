@@ -1,7 +1,7 @@
 use Rattle.std.proofs.Common.{◌≡◌, ◌++◌, take, map}
 use Rattle.std.specs.List.{flat_map, AllByRecursion}
 use Rattle.entry_bytes.specs.Duty.{IsDuty}
-use Rattle.router_core.specs.View.{entry_of}
+use Rattle.router_requests.specs.View.{entry_of}
 use Rattle.duty_journal.specs.Batch.{operation_bytes, IsOperation}
 use Rattle.duty_journal.proofs.put.put_entries.Given as goal
 

@@ -1,5 +1,5 @@
 use Rattle.std.proofs.Common.{◌++◌, [], Err, ap, sym, subst, ◌∙◌}
-use Rattle.router_core.specs.View.{batch_of}
+use Rattle.router_requests.specs.View.{batch_of}
 use Rattle.router_core.specs.Admitted.{IsAdmitted}
 use Rattle.duty_journal.proofs.Readable.{own_bytes, read_batch}
 use Rattle.duty_journal.proofs.RecoveryLemmas.{not_redone}

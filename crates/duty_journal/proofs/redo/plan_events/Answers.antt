@@ -1,7 +1,7 @@
 use Rattle.std.proofs.Common.{◌≡◌, ◌++◌, Err, inr, map, ap, sym, subst, ◌∙◌, arith}
 use Rattle.std.proofs.lemmas.Bool.Decides.{nat_tests}
 use Rattle.std.proofs.lemmas.List.{length-map}
-use Rattle.router_core.specs.View.{entry_of}
+use Rattle.router_requests.specs.View.{entry_of}
 use Rattle.router_core.specs.Ready.{ArePartsOf}
 use Rattle.router_core.proofs.StartLemmas.{events_start_none, made_on}
 use Rattle.duty_journal.specs.declared.fault.ReplayFault.TheVariants.{NotAdmitted}

@@ -1,9 +1,9 @@
 use Rattle.std.proofs.Common.{List, map, ap, sym, subst}
-use Rattle.router_core.specs.View.{batch_of, entry_of}
+use Rattle.router_requests.specs.View.{batch_of, entry_of}
 use Rattle.router_core.specs.Admitted.{AreAdmitted, AreOfOneTurn, IsAdmitted}
 use Rattle.router_core.specs.Ready.{ArePartsOf, AreMadeOn}
-use Rattle.router_core.specs.declared.batch.Batch.{Batch}
-use Rattle.router_core.specs.declared.batch.Entry.{Entry}
+use Rattle.router_requests.specs.declared.batch.Batch.{Batch}
+use Rattle.router_requests.specs.declared.batch.Entry.{Entry}
 use Rattle.router_core.specs.declared.ready.Part.{Part}
 use Rattle.duty_journal.specs.declared.redo.Plan.{Plan}
 use Rattle.duty_journal.specs.Redo.{IsPlanOf}

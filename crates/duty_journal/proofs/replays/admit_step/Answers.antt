@@ -5,7 +5,7 @@ use Rattle.std.proofs.lemmas.Bool.{false≢true}
 use Rattle.std.proofs.lemmas.Bool.Decides.{nat_tests}
 use Rattle.json_text.specs.Limits.{most_text}
 use Rattle.delivery_duties.specs.declared.duty.NewDuty.{NewDuty}
-use Rattle.router_core.specs.View.{stepped_of}
+use Rattle.router_requests.specs.View.{stepped_of}
 use Rattle.duty_journal.specs.Redo.{is_short}
 use Rattle.duty_journal.proofs.AdmitLemmas.{all_short, short_all}
 use Rattle.duty_journal.proofs.ReplayLemmas.{step_from}

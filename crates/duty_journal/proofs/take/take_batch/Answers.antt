@@ -2,7 +2,7 @@ use Rattle.std.proofs.Common.{sym, ap, ◌∙◌, length, eqb, arith}
 use Rattle.std.proofs.lemmas.Bool.{eqb-true}
 use Rattle.std.proofs.lemmas.Bool.Decides.{not_from_Decides, Decides-eqb}
 use Rattle.std.proofs.lemmas.List.{nil_from_length}
-use Rattle.router_core.specs.View.{batch_of}
+use Rattle.router_requests.specs.View.{batch_of}
 use Rattle.entry_bytes.specs.Reading.{HasNone}
 use Rattle.duty_journal.specs.Reading.{batch_at}
 use Rattle.duty_journal.proofs.Finding.{HasValid, blamed}

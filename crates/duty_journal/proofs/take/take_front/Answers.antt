@@ -1,5 +1,5 @@
 use Rattle.std.proofs.Common.{map}
-use Rattle.router_core.specs.View.{entry_of}
+use Rattle.router_requests.specs.View.{entry_of}
 use Rattle.duty_journal.specs.Reading.{batch_at}
 use Rattle.entry_bytes.proofs.Finding.{missing_so}
 use Rattle.duty_journal.proofs.Finding.{HasValid, front_found, front_none, moment_missing}

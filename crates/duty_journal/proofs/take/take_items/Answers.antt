@@ -2,7 +2,7 @@ use Rattle.std.proofs.Common.{◌≡◌, ◌++◌, ◌∷◌, [], map}
 use Rattle.std.proofs.lemmas.List.{map_push}
 use Rattle.entry_bytes.specs.Reading.{items_at}
 use Rattle.entry_bytes.proofs.Loops.{goes_on, is_refused, is_done, all_more}
-use Rattle.router_core.specs.View.{entry_of}
+use Rattle.router_requests.specs.View.{entry_of}
 use Rattle.duty_journal.specs.Batch.{HasValidTexts}
 use Rattle.duty_journal.specs.Reading.{operation_at}
 use Rattle.duty_journal.proofs.take.take_items.Goals as goal

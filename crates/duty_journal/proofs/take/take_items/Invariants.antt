@@ -2,7 +2,7 @@ use Rattle.std.proofs.Common.{◌≡◌, ◌-◌, map}
 use Rattle.std.specs.List.{AllByRecursion}
 use Rattle.entry_bytes.specs.Reading.{items_at}
 use Rattle.entry_bytes.proofs.Loops.{with_front}
-use Rattle.router_core.specs.View.{entry_of}
+use Rattle.router_requests.specs.View.{entry_of}
 use Rattle.duty_journal.specs.Batch.{HasValidTexts}
 use Rattle.duty_journal.specs.Reading.{operation_at}
 use Rattle.duty_journal.proofs.take.take_items.Given as goal

@@ -1,5 +1,5 @@
 use Rattle.std.proofs.Common.{ℕ, List, subst}
-use Rattle.router_core.specs.View.{accepted_of}
+use Rattle.router_requests.specs.View.{accepted_of}
 use Rattle.router_calls.specs.Accepted.{IsAcceptedAs}
 use Rattle.router_calls.proofs.EntryLemmas.{allowed_placed}
 use Rattle.router_calls.proofs.put_events.place.Goals as goal

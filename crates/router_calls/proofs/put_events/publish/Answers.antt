@@ -4,7 +4,7 @@ use Rattle.std.proofs.lemmas.Result.{IfOk-weaker}
 use Rattle.json_text.specs.Limits.{most_together}
 use Rattle.rule_table.specs.RuleSet.{RuleSet}
 use Rattle.router_calls.specs.Accepted.{found_of}
-use Rattle.router_calls.specs.Decided.{decided_of}
+use Rattle.resource_calls.specs.Decided.{decided_of}
 use Rattle.router_calls.specs.Steps.{Places}
 use Rattle.router_calls.specs.declared.put_events.PlacedEntries.{PlacedEntries}
 use Rattle.router_core.proofs.TimeLemmas.{iso_of}

@@ -1,8 +1,8 @@
 use Rattle.std.proofs.Common.{sym, subst}
 use Rattle.std.specs.Prelude.{IfOk}
-use Rattle.router_core.specs.declared.seen.SeenResult.{SeenResult}
+use Rattle.router_requests.specs.declared.seen.SeenResult.{SeenResult}
 use Rattle.router_calls.specs.Accepted.{entries_seen}
-use Rattle.router_calls.specs.Decided.{decided_of}
+use Rattle.resource_calls.specs.Decided.{decided_of}
 use Rattle.router_calls.specs.Steps.{IsPublication}
 use Rattle.router_calls.proofs.put_events.put_events.Goals as goal
 

@@ -1,7 +1,7 @@
 use Rattle.std.proofs.Common.{ap, ◌∙◌}
 use Rattle.std.specs.Option.{option_copied}
 use Rattle.router_calls.specs.Answer.{statement_put}
-use Rattle.router_calls.specs.Decided.{decided_of}
+use Rattle.resource_calls.specs.Decided.{decided_of}
 use Rattle.router_calls.proofs.CallLemmas.{if_ok_more}
 use Rattle.router_calls.proofs.PolicyLemmas.{by_policy}
 use Rattle.router_calls.proofs.put_permission.put_statement.Goals as goal

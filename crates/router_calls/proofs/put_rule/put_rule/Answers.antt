@@ -3,7 +3,7 @@ use Rattle.json_text.specs.Tree.{text}
 use Rattle.event_shape.specs.Names.{rule_arn}
 use Rattle.api_replies.specs.Reply.{served}
 use Rattle.api_replies.specs.View.{reply_of}
-use Rattle.router_calls.proofs.DecidedLemmas.{controlled_so}
+use Rattle.resource_calls.proofs.DecidedLemmas.{controlled_so}
 use Rattle.router_calls.proofs.put_rule.put_rule.Goals as goal
 
 pub returns-clause-answer : goal.returns-clause-answer

@@ -1,7 +1,7 @@
 use Rattle.std.proofs.Common.{◌<◌, length, refl, ap, ◌∙◌, sym, subst}
 use Rattle.rule_table.specs.Control.{targets_put}
 use Rattle.rule_table.specs.View.{control_of}
-use Rattle.router_calls.specs.Decided.{decided_of}
+use Rattle.resource_calls.specs.Decided.{decided_of}
 use Rattle.router_calls.specs.Targets.{accepted_targets, failed_targets}
 use Rattle.router_calls.proofs.CallLemmas.{if_ok_more}
 use Rattle.router_calls.proofs.DecidedLemmas.{items_decided}

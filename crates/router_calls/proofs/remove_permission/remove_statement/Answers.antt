@@ -1,6 +1,6 @@
 use Rattle.std.specs.Option.{option_copied}
 use Rattle.router_calls.specs.Answer.{statement_removed}
-use Rattle.router_calls.specs.Decided.{decided_of}
+use Rattle.resource_calls.specs.Decided.{decided_of}
 use Rattle.router_calls.proofs.CallLemmas.{if_ok_more}
 use Rattle.router_calls.proofs.PolicyLemmas.{by_policy}
 use Rattle.router_calls.proofs.remove_permission.remove_statement.Goals as goal

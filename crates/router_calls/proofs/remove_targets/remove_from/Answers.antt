@@ -2,7 +2,7 @@ use Rattle.std.proofs.Common.{◌<◌, length, map, ap, ◌∙◌, sym, subst}
 use Rattle.rule_table.specs.Control.{targets_removed}
 use Rattle.call_replies.specs.Replies.{target_report}
 use Rattle.rule_table.specs.View.{control_of}
-use Rattle.router_calls.specs.Decided.{decided_of}
+use Rattle.resource_calls.specs.Decided.{decided_of}
 use Rattle.router_calls.specs.Removals.{removed_ids, failed_ids}
 use Rattle.router_calls.proofs.CallLemmas.{if_ok_more}
 use Rattle.router_calls.proofs.DecidedLemmas.{items_decided}

@@ -1,11 +1,11 @@
 use Rattle.std.proofs.Common.{List, ap, sym, subst}
 use Rattle.std.specs.Prelude.{IfOk}
 use Rattle.json_text.specs.View.{tree_of}
-use Rattle.router_core.specs.View.{action_of}
-use Rattle.router_core.specs.Matching.{IsSeenResult}
-use Rattle.router_core.specs.declared.request.Action.{Action}
+use Rattle.router_requests.specs.View.{action_of}
+use Rattle.router_requests.specs.Matching.{IsSeenResult}
+use Rattle.router_requests.specs.declared.request.Action.{Action}
 use Rattle.router_calls.specs.Accepted.{Given, entries_seen}
-use Rattle.router_calls.specs.Decided.{decided_of}
+use Rattle.resource_calls.specs.Decided.{decided_of}
 use Rattle.router_calls.specs.Steps.{IsDecidedAs, IsPublication}
 use Rattle.router_calls.proofs.requests.answer.Goals as goal
 

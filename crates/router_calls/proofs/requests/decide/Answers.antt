@@ -1,6 +1,7 @@
 use Rattle.std.proofs.Common.{arith}
-use Rattle.router_core.specs.View.{request_of}
-use Rattle.router_calls.specs.Decided.{answer_of, decided_of}
+use Rattle.router_requests.specs.View.{request_of}
+use Rattle.resource_calls.specs.Decided.{decided_of}
+use Rattle.router_calls.specs.View.{answer_of}
 use Rattle.router_calls.proofs.CallLemmas.{answered, if_ok_more}
 use Rattle.router_calls.proofs.requests.decide.Goals as goal
 

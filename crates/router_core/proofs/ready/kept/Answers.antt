@@ -3,7 +3,7 @@ use Rattle.std.specs.Prelude.{All}
 use Rattle.std.proofs.lemmas.Result.{IfOk-weaker}
 use Rattle.archive_keep.specs.declared.event_ref.KeptEvent.{KeptEvent}
 use Rattle.router_core.specs.Tables.{kept_event}
-use Rattle.router_core.specs.View.{accepted_of}
+use Rattle.router_requests.specs.View.{accepted_of}
 use Rattle.router_core.proofs.ready.kept.Goals as goal
 
 pub returns : goal.returns

@@ -1,5 +1,5 @@
 use Rattle.std.proofs.Common.{[], ◌∷◌, ◌++◌, refl, ap, ◌∙◌}
-use Rattle.router_core.specs.declared.batch.Entry.TheVariants.{ReplayStepped}
+use Rattle.router_requests.specs.declared.batch.Entry.TheVariants.{ReplayStepped}
 use Rattle.router_core.proofs.ReplayingLemmas.{one_step}
 use Rattle.router_core.proofs.replaying.ready.Goals as goal
 

@@ -1,6 +1,6 @@
 use Rattle.std.proofs.Common.{refl, subst}
 use Rattle.rule_table.specs.Sound.{IsSound}
-use Rattle.router_core.specs.Batch.{Stepped}
+use Rattle.router_requests.specs.Batch.{Stepped}
 use Rattle.router_core.proofs.ReplayingLemmas.{all_ready, all_steps, made_step}
 use Rattle.router_core.proofs.replaying.step.Goals as goal
 

@@ -23,8 +23,10 @@ pub returns-in-Err-clause-made : goal.returns-in-Err-clause-made
 returns-in-Err-clause-made g c =
     let (reading, cut, gave) = c.read_clock-moment.ensures.reading in
     let (acts, did, refusal) = c.in-Err.ensures.refused in
-    let At : ℕ → Type 0 = λ m. IsRefusal (λ s. g.B.StepBook.full s m) acts c.in-Err.fault in
-    let (own, none) = refused_by_book (λ s. g.B.StepBook.full s c.read_clock-moment.result) acts c.in-Err.fault refusal in
+    let At : ℕ → Type 0 =
+    λ m. IsRefusal (λ p. g.B.StepBook.breaks p m) (λ s. g.B.StepBook.full s m) (λ s. g.B.StepBook.broken s m) acts c.in-Err.fault in
+    let m = c.read_clock-moment.result in
+    let (own, none) = refused_by_book (λ p. g.B.StepBook.breaks p m) (λ s. g.B.StepBook.full s m) (λ s. g.B.StepBook.broken s m) acts c.in-Err.fault refusal in
     let Did : List (Act g.B.StepBook.Placed g.B.StepBook.State g.B.StepBook.Other) → Type 0 = λ made. g.B.StepBook.did c.args.book.now c.step.new.self made in
     let Gave : List ℕ → Type 0 = λ more. g.C.Clock.gave c.read_clock-moment.new.clock ≡ g.C.Clock.gave c.args.clock.now ++ (reading ∷ more) in
     (ticks reading ∷ acts, subst Did (sym own) did, refused_at reading acts c.in-Err.fault (subst At cut refusal), subst Gave (sym none) gave)

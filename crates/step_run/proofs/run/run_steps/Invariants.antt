@@ -9,7 +9,8 @@ abbrev pub invariant-loop-made : goal.invariant-loop-made
 invariant-loop-made g l = (l.made ≤ l.budget) × (g.B.StepBook.lender l.book ≡ g.B.StepBook.lender l.fn.book) × g.B.StepBook.sound l.book
     × ((acts : List (Act g.B.StepBook.Placed g.B.StepBook.State g.B.StepBook.Other)) × (turns : List g.B.StepBook.Placed)
     × g.B.StepBook.did l.fn.book l.book (book_acts_in acts)
-    × Stepping (IsStep g.B.StepBook.steps g.B.StepBook.idle g.B.StepBook.full) (IsStop g.B.StepBook.steps g.B.StepBook.idle g.B.StepBook.full) acts turns
+    × Stepping (IsStep g.B.StepBook.steps g.B.StepBook.breaks g.B.StepBook.idle g.B.StepBook.full g.B.StepBook.broken)
+    (IsStop g.B.StepBook.steps g.B.StepBook.breaks g.B.StepBook.idle g.B.StepBook.full g.B.StepBook.broken) acts turns
     × (length turns ≡ l.made) × (g.C.Clock.gave l.clock ≡ g.C.Clock.gave l.fn.clock ++ readings_in acts))
 
 abbrev pub decreases-loop-made : goal.decreases-loop-made

@@ -3,29 +3,19 @@ use Rattle.std.specs.Prelude.{Result, Ok, Err, IfOk}
 use Rattle.std.specs.Option.{option_map}
 use Rattle.json_text.specs.Tree.{members_of}
 use Rattle.json_text.specs.View.{pairs_of}
-use Rattle.router_core.specs.View.{action_of}
-use Rattle.router_core.specs.declared.request.Action.{Action}
+use Rattle.router_requests.specs.View.{action_of}
+use Rattle.router_requests.specs.declared.request.Action.{Action}
 use Rattle.api_replies.specs.declared.member.Member.TheVariants as member
 use Rattle.api_members.specs.Given.{text_of}
 use Rattle.api_members.specs.Value.{bus_of_source}
-use Rattle.api_members.proofs.ArnLemmas.{source_of}
-use Rattle.router_core.specs.Request as request
+use Rattle.router_requests.specs.Request as request
 use Rattle.api_wire.specs.Call.{creation_in}
-use Rattle.api_wire.proofs.BoundLemmas.{source_arn}
 use Rattle.api_wire.proofs.call.archives.create_archive.Goals as goal
 
 made : {E : Type 0} (r : Result Action E) (make : List ℕ → request.Action) (o : Option (List ℕ)) (bus : List ℕ) → o ≡ Some bus
     → IfOk r (λ a. make bus ≡ action_of a) → IfOk r (λ a. option_map make o ≡ Some (action_of a))
 made (Ok a) make o bus is h = rw is (ap Some h)
 made (Err e) make o bus is h = tt
-
-pub unreachable-requires : goal.unreachable-requires
-unreachable-requires c =
-    let ms = members_of (pairs_of c.args.members.now) in
-    let (bus, is) = source_arn ms c.requires.sound.1.0 in
-    let none = rw c.in-None.is at c.bus_of_source.ensures in
-    let some = source_of (text_of member.EventSourceArn ms) bus is in
-    cc
 
 pub returns : goal.returns
 returns c =

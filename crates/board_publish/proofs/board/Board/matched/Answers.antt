@@ -1,8 +1,8 @@
 use Rattle.std.proofs.Common.{List, sym, subst}
 use Rattle.json_text.specs.View.{tree_of}
 use Rattle.rule_table.specs.RuleSet.{rules_of}
-use Rattle.router_core.specs.Matching.{AreMatched}
-use Rattle.router_core.specs.declared.seen.SeenTarget.{SeenTarget}
+use Rattle.router_requests.specs.Matching.{AreMatched}
+use Rattle.router_requests.specs.declared.seen.SeenTarget.{SeenTarget}
 use Rattle.board_publish.proofs.FoundLemmas.{nothing_matched}
 use Rattle.board_publish.proofs.board.Board.matched.Goals as goal
 

@@ -1,5 +1,5 @@
 use Rattle.std.proofs.Common.{◌≡◌, ◌≤◌, ◌+◌, [], ◌∷◌, map, drop, ap, subst, rules}
-use Rattle.router_core.specs.View.{batch_of, entry_of}
+use Rattle.router_requests.specs.View.{batch_of, entry_of}
 use Rattle.router_core.specs.Tables.{Tables}
 use Rattle.router_core.proofs.BatchLemmas.{IsLeft, left_all, left_at, left_end, left_part, left_room, left_first, left_next, left_none, batch_kept, purge_few}
 use Rattle.router_core.proofs.tables.Tables.apply.Goals as goal

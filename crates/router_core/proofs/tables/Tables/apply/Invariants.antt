@@ -1,5 +1,5 @@
 use Rattle.std.proofs.Common.{map, drop}
-use Rattle.router_core.specs.View.{batch_of, entry_of}
+use Rattle.router_requests.specs.View.{batch_of, entry_of}
 use Rattle.router_core.proofs.BatchLemmas.{IsLeft}
 use Rattle.router_core.proofs.tables.Tables.apply.Given as goal
 

@@ -1,7 +1,7 @@
 use Rattle.std.proofs.Common.{◌∙◌, ap, sym}
 use Rattle.router_core.specs.Tables.{Tables, after_entry}
-use Rattle.router_core.specs.View.{entry_of}
-use Rattle.router_core.specs.declared.batch.Entry.{Entry as CodeEntry}
+use Rattle.router_requests.specs.View.{entry_of}
+use Rattle.router_requests.specs.declared.batch.Entry.{Entry as CodeEntry}
 use Rattle.router_core.proofs.TablesLemmas.{with_cancellation, cancelled}
 use Rattle.router_core.proofs.tables.Tables.cancel_replay.Goals as goal
 

@@ -4,10 +4,10 @@ use Rattle.rule_table.specs.Control.{Control}
 use Rattle.rule_table.specs.View.{control_of}
 use Rattle.router_core.specs.Tables.{Tables, duties_after, after_entry}
 use Rattle.router_core.specs.Parts.{with_forgotten}
-use Rattle.router_core.specs.View.{entry_of}
+use Rattle.router_requests.specs.View.{entry_of}
 use Rattle.router_core.specs.Admitted.{IsEntryAdmitted}
 use Rattle.router_core.specs.Ready.{IsPartOf}
-use Rattle.router_core.specs.declared.batch.Entry.{Entry as CodeEntry}
+use Rattle.router_requests.specs.declared.batch.Entry.{Entry as CodeEntry}
 use Rattle.router_core.specs.declared.ready.Part.TheVariants.{Configuration}
 use Rattle.router_core.proofs.TablesLemmas.{room_for, archive_room, duties_by, created_after, has_changed, with_change, changed}
 use Rattle.router_core.proofs.tables.Tables.configure.Goals as goal

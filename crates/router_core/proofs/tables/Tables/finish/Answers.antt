@@ -1,6 +1,6 @@
 use Rattle.std.proofs.Common.{ap, sym, subst, ◌∙◌}
 use Rattle.delivery_duties.specs.Duties.{settled}
-use Rattle.router_core.specs.Batch.{Batch}
+use Rattle.router_requests.specs.Batch.{Batch}
 use Rattle.router_core.specs.Tables.{Tables, after_batch}
 use Rattle.router_core.specs.Admitted.{IsAdmitted}
 use Rattle.router_core.proofs.BatchLemmas.{purge_few}

@@ -1,5 +1,5 @@
 use Rattle.std.proofs.Common.{subst, arith}
-use Rattle.router_core.specs.View.{entry_of}
+use Rattle.router_requests.specs.View.{entry_of}
 use Rattle.router_core.specs.Ready.{IsPartOf, IsMadeOn}
 use Rattle.router_core.proofs.TablesLemmas.{cancellation_part, change_part, event_part, event_few, deletion_part, start_part, step_few, step_part}
 use Rattle.router_core.proofs.tables.Tables.join.Goals as goal

@@ -1,10 +1,10 @@
 use Rattle.std.proofs.Common.{◌∙◌, ap, sym, length, subst}
-use Rattle.router_core.specs.Batch.{Accepted}
+use Rattle.router_requests.specs.Batch.{Accepted}
 use Rattle.router_core.specs.Tables.{Tables, after_entry}
-use Rattle.router_core.specs.View.{accepted_of, entry_of}
+use Rattle.router_requests.specs.View.{accepted_of, entry_of}
 use Rattle.router_core.specs.Admitted.{IsEntryAdmitted}
 use Rattle.router_core.specs.Ready.{IsPartOf}
-use Rattle.router_core.specs.declared.batch.Entry.{Entry as CodeEntry}
+use Rattle.router_requests.specs.declared.batch.Entry.{Entry as CodeEntry}
 use Rattle.router_core.specs.declared.ready.Part.TheVariants.{Event}
 use Rattle.router_core.proofs.TablesLemmas.{can_keep, has_published, with_event, published}
 use Rattle.router_core.proofs.tables.Tables.publish.Goals as goal

@@ -1,5 +1,5 @@
 use Rattle.std.proofs.Common.{ap, sym, subst, ◌∙◌}
-use Rattle.router_core.specs.Batch.{Entry, replay_started}
+use Rattle.router_requests.specs.Batch.{Entry, replay_started}
 use Rattle.router_core.specs.Tables.{Tables, after_entry}
 use Rattle.router_core.specs.Admitted.{IsEntryAdmitted}
 use Rattle.router_core.specs.Ready.{IsMadeOn}

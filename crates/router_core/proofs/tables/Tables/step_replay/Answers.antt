@@ -1,9 +1,9 @@
 use Rattle.std.proofs.Common.{◌∙◌, ap, sym, length, subst}
-use Rattle.router_core.specs.Batch.{Stepped}
+use Rattle.router_requests.specs.Batch.{Stepped}
 use Rattle.router_core.specs.Tables.{Tables, after_entry}
-use Rattle.router_core.specs.View.{entry_of, stepped_of}
+use Rattle.router_requests.specs.View.{entry_of, stepped_of}
 use Rattle.router_core.specs.Ready.{IsPartOf}
-use Rattle.router_core.specs.declared.batch.Entry.{Entry as CodeEntry}
+use Rattle.router_requests.specs.declared.batch.Entry.{Entry as CodeEntry}
 use Rattle.router_core.specs.declared.ready.Part.TheVariants.{Step}
 use Rattle.router_core.proofs.TablesLemmas.{with_step, stepped}
 use Rattle.router_core.proofs.tables.Tables.step_replay.Goals as goal

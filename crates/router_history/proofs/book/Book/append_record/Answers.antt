@@ -1,8 +1,8 @@
 use Rattle.std.proofs.Common.{◌≡◌, ℕ, [], ◌∷◌, None, Ok, Err, refl, sym, ap, ◌∙◌, subst}
 use Rattle.delivery_duties.specs.declared.outcome.Outcome.{Outcome}
 use Rattle.router_core.specs.Admitted.{IsAdmitted}
-use Rattle.router_core.specs.Batch.{Batch}
-use Rattle.router_core.specs.View.{batch_of}
+use Rattle.router_requests.specs.Batch.{Batch}
+use Rattle.router_requests.specs.View.{batch_of}
 use Rattle.router_core.specs.Tables.{Tables, is_full, moment_at}
 use Rattle.router_core.specs.Steps.{IsRecordedAs, record_of}
 use Rattle.duty_journal.specs.Home.{HasAppended}

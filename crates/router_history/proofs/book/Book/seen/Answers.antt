@@ -1,8 +1,8 @@
 use Rattle.std.proofs.Common.{subst}
 use Rattle.std.specs.Prelude.{IfOk}
 use Rattle.rule_table.specs.RuleSet.{RuleSet}
-use Rattle.router_core.specs.Matching.{IsSeen}
-use Rattle.router_core.specs.View.{request_of}
+use Rattle.router_requests.specs.Matching.{IsSeen}
+use Rattle.router_requests.specs.View.{request_of}
 use Rattle.router_history.proofs.book.Book.seen.Goals as goal
 
 pub returns : goal.returns

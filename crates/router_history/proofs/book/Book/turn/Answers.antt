@@ -1,4 +1,4 @@
-use Rattle.router_core.specs.View.{request_of}
+use Rattle.router_requests.specs.View.{request_of}
 use Rattle.router_history.specs.History.{asked}
 use Rattle.router_history.proofs.SoundLemmas.{sound_same}
 use Rattle.router_history.proofs.book.Book.turn.Goals as goal

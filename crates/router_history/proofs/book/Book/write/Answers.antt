@@ -1,7 +1,7 @@
 use Rattle.std.proofs.Common.{[], ◌∷◌, None, Ok, Err, refl, sym, ap, ◌∙◌, subst}
 use Rattle.router_core.specs.Admitted.{IsAdmitted}
-use Rattle.router_core.specs.Batch.{Batch}
-use Rattle.router_core.specs.View.{batch_of, request_of}
+use Rattle.router_requests.specs.Batch.{Batch}
+use Rattle.router_requests.specs.View.{batch_of, request_of}
 use Rattle.duty_journal.specs.Home.{CanAppend, HasAppended}
 use Rattle.router_history.specs.History.{asked, breaks}
 use Rattle.router_history.specs.Book.{turns_of}

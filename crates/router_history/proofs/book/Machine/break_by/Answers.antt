@@ -1,5 +1,5 @@
 use Rattle.std.proofs.Common.{[], ◌∷◌, ◌++◌, map, refl, ap, ◌∙◌}
-use Rattle.router_core.specs.View.{batch_of}
+use Rattle.router_requests.specs.View.{batch_of}
 use Rattle.router_history.specs.declared.book.Machine.{Machine}
 use Rattle.router_history.specs.Firsts.{firsts}
 use Rattle.router_history.proofs.BreakLemmas.{broke_made, broke_kept, broke}

@@ -1,7 +1,7 @@
 use Rattle.std.proofs.Common.{sym, ap, ◌∙◌}
 use Rattle.std.specs.Prelude.{Some}
 use Rattle.std.proofs.lemmas.Bool.{true≢false}
-use Rattle.router_core.specs.View.{batch_of}
+use Rattle.router_requests.specs.View.{batch_of}
 use Rattle.router_history.specs.declared.book.Machine.{Machine}
 use Rattle.router_history.specs.declared.book.TurnReply.TheVariants.{Rendered}
 use Rattle.router_history.proofs.AnsweredLemmas.{answer_made, answered, answered_book}

@@ -1,8 +1,8 @@
 use Rattle.std.proofs.Common.{subst}
 use Rattle.rule_table.specs.Sound.{IsSound}
-use Rattle.router_core.specs.Request.{Request}
+use Rattle.router_requests.specs.Request.{Request}
 use Rattle.router_core.specs.Tables.{Tables}
-use Rattle.router_core.specs.View.{request_of}
+use Rattle.router_requests.specs.View.{request_of}
 use Rattle.router_history.proofs.AnsweredLemmas.{matched_on, decided_by}
 use Rattle.router_history.proofs.book.Machine.decided.Goals as goal
 

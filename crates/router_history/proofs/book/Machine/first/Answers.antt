@@ -1,6 +1,6 @@
 use Rattle.std.proofs.Common.{List, None, ◌∷◌, [], ap, ◌∙◌}
 use Rattle.std.specs.List.{flat_map}
-use Rattle.router_core.specs.Batch.{Batch}
+use Rattle.router_requests.specs.Batch.{Batch}
 use Rattle.duty_journal.specs.Journal.{batches_in}
 use Rattle.router_history.specs.Book.{opening_on}
 use Rattle.router_history.proofs.OpenLemmas.{none_found}

@@ -1,6 +1,7 @@
-use Rattle.std.proofs.Common.{ℕ, Some, refl, sym, ap, ◌∙◌}
-use Rattle.router_core.specs.Batch.{Batch}
-use Rattle.router_core.specs.View.{batch_of}
+use Rattle.std.proofs.Common.{ℕ, Some, refl, sym, ap, ◌∙◌, subst}
+use Rattle.router_core.specs.Admitted.{IsAdmitted}
+use Rattle.router_requests.specs.Batch.{Batch}
+use Rattle.router_requests.specs.View.{batch_of}
 use Rattle.router_core.specs.Tables.{Tables, after_batch, moment_at}
 use Rattle.router_core.specs.Steps.{record_of, fate_after}
 use Rattle.router_history.specs.declared.book.Machine.{Machine}
@@ -25,7 +26,7 @@ returns-clause-kept c =
     let shown = c.of.ensures ∙ c.batch.ensures in
     recorded_book (recording c.args.seat c.args.held c.of-about.result.value c.args.had c.args.outcome c.finish-fate.result.0 m c.args.self.now _
     (batch_of c.of.result.value) c.control_count-k.result c.set.result.now c.requires.kept c.requires.holds refl c.requires.fits c.requires.numbered c.requires.unbroken
-    c.requires.recorded.0 (ap batch_of shown ∙ batch)
+    c.requires.recorded.0 (subst (λ (b : Batch). IsAdmitted c.args.self.now.tables b) batch c.requires.admitted) (ap batch_of shown ∙ batch)
     (λ row there.
     c.finish-fate.ensures.fate row c.args.outcome there (batch ∙ ap (λ k. record_of k n c.args.outcome) (sym moment))
     ∙ ap (λ k. fate_after c.args.self.now.tables.duties.queues k row c.args.outcome) moment)
@@ -43,7 +44,7 @@ returns-clause-rests c =
     (ap (λ (t : Tables). t.set) (c.finish-fate.ensures.tables ∙ ap (λ b. after_batch b c.args.self.now.tables) batch)) in
     let r = recording c.args.seat c.args.held c.of-about.result.value c.args.had c.args.outcome c.finish-fate.result.0 m c.args.self.now new
     (batch_of c.of.result.value) c.control_count-k.result c.set.result.now c.requires.kept c.requires.holds refl c.requires.fits c.requires.numbered c.requires.unbroken
-    c.requires.recorded.0 (ap batch_of shown ∙ batch)
+    c.requires.recorded.0 (subst (λ (b : Batch). IsAdmitted c.args.self.now.tables b) batch c.requires.admitted) (ap batch_of shown ∙ batch)
     (λ row there.
     c.finish-fate.ensures.fate row c.args.outcome there (batch ∙ ap (λ k. record_of k n c.args.outcome) (sym moment))
     ∙ ap (λ k. fate_after c.args.self.now.tables.duties.queues k row c.args.outcome) moment)
@@ -62,7 +63,7 @@ returns-clause-recorded c =
     (ap (λ (t : Tables). t.set) (c.finish-fate.ensures.tables ∙ ap (λ b. after_batch b c.args.self.now.tables) batch)) in
     let r = recording c.args.seat c.args.held c.of-about.result.value c.args.had c.args.outcome c.finish-fate.result.0 m c.args.self.now new
     (batch_of c.of.result.value) c.control_count-k.result c.set.result.now c.requires.kept c.requires.holds refl c.requires.fits c.requires.numbered c.requires.unbroken
-    c.requires.recorded.0 (ap batch_of shown ∙ batch)
+    c.requires.recorded.0 (subst (λ (b : Batch). IsAdmitted c.args.self.now.tables b) batch c.requires.admitted) (ap batch_of shown ∙ batch)
     (λ row there.
     c.finish-fate.ensures.fate row c.args.outcome there (batch ∙ ap (λ k. record_of k n c.args.outcome) (sym moment))
     ∙ ap (λ k. fate_after c.args.self.now.tables.duties.queues k row c.args.outcome) moment)
@@ -81,7 +82,7 @@ returns-clause-added c =
     (ap (λ (t : Tables). t.set) (c.finish-fate.ensures.tables ∙ ap (λ b. after_batch b c.args.self.now.tables) batch)) in
     let r = recording c.args.seat c.args.held c.of-about.result.value c.args.had c.args.outcome c.finish-fate.result.0 m c.args.self.now new
     (batch_of c.of.result.value) c.control_count-k.result c.set.result.now c.requires.kept c.requires.holds refl c.requires.fits c.requires.numbered c.requires.unbroken
-    c.requires.recorded.0 (ap batch_of shown ∙ batch)
+    c.requires.recorded.0 (subst (λ (b : Batch). IsAdmitted c.args.self.now.tables b) batch c.requires.admitted) (ap batch_of shown ∙ batch)
     (λ row there.
     c.finish-fate.ensures.fate row c.args.outcome there (batch ∙ ap (λ k. record_of k n c.args.outcome) (sym moment))
     ∙ ap (λ k. fate_after c.args.self.now.tables.duties.queues k row c.args.outcome) moment)

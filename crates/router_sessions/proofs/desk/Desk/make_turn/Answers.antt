@@ -1,5 +1,5 @@
 use Rattle.std.proofs.Common.{[], subst}
-use Rattle.router_core.specs.View.{request_of}
+use Rattle.router_requests.specs.View.{request_of}
 use Rattle.router_history.specs.declared.book.Seat.{Seat}
 use Rattle.router_history.specs.Acts.{Makes}
 use Rattle.router_history.specs.Answered.{IsAnswered, IsUnanswered}

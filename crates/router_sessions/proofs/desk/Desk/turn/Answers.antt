@@ -1,4 +1,4 @@
-use Rattle.router_core.specs.View.{request_of}
+use Rattle.router_requests.specs.View.{request_of}
 use Rattle.router_history.specs.declared.fault.RequestFault.TheVariants as faults
 use Rattle.router_history.specs.Answered.{IsAnswered, IsRenderable}
 use Rattle.router_sessions.specs.Desk.{turns_seen, seat_of}

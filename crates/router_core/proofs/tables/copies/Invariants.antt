@@ -1,6 +1,0 @@
-use Rattle.std.proofs.Common.{◌≡◌, take}
-use Rattle.router_core.proofs.tables.copies.Given as goal
-
--- the names so far
-abbrev pub invariant-loop-name : goal.invariant-loop-name
-invariant-loop-name l = l.same.items ≡ take l.name-index l.names
