@@ -1,7 +1,7 @@
 #!/usr/bin/env python3
 """Times the calls of the leaf crates by the proved program leaf_bench, and prints tables.
 
-    bench/leaves.py [wildcards] [ranges] [json] [events] [numbered] [patterns] [reading]
+    bench/leaves.py [wildcards] [ranges] [json] [events] [numbered] [patterns] [reading] [archives]
 
 Run at the top of the repository, once `rt run` in crates/leaf_bench has built crates/leaf_bench/out/leaf_bench.
 If c++ and Debian's rapidjson-dev are installed, RapidJSON's rates are shown beside ours. Outside the gate: nothing
@@ -45,6 +45,7 @@ RANGES = [
 ]
 RANGE_COUNTS = [10, 1_000, 100_000]
 LOOKUPS = 1_000  # in one run of the program
+ARCHIVED, DAYS = [1_000, 1_000_000], 10
 
 # Measurement, and for each number of objects in the event's list how many calls one run makes.
 PATTERNS = [
@@ -198,6 +199,15 @@ def reading():
         row(name, len(text), answer, *[f"{rounds * len(text) / max(1, micros):.0f}" for micros in times])
 
 
+def archives():
+    """An archive that keeps its events for a day. From the second day on each event that it keeps lets one expire."""
+    table("events a day", *(f"day {day}, ns an event" for day in range(1, DAYS + 1)), "a purge of all, s, at most 0.5")
+    for events in ARCHIVED:
+        kept, [*days, purged] = run("archives", events, DAYS)
+        assert int(kept) == events, kept
+        row(f"{events:,}", *(round(1000 * it / events) for it in days), f"{purged / 1e6:.3f}")
+
+
 def built_rapidjson(folder):
     """The program for RapidJSON, or nothing if it cannot be built here."""
     program = os.path.join(folder, "rapidjson")
@@ -211,7 +221,8 @@ def main():
     if not os.path.exists(PROGRAM):
         sys.exit(f"{PROGRAM} is not built: run `rt run` in crates/leaf_bench")
     print(f"{datetime.date.today()}, {os.cpu_count()} processors, {platform.machine()}, {' '.join(sys.argv)}")
-    tables = {"wildcards": wildcards, "ranges": ranges, "json": jsons, "events": events, "numbered": numbered, "patterns": patterns, "reading": reading}
+    tables = {"wildcards": wildcards, "ranges": ranges, "json": jsons, "events": events, "numbered": numbered, "patterns": patterns}
+    tables |= {"reading": reading, "archives": archives}
     for name in sys.argv[1:] or tables:
         tables[name]()
 

@@ -10,9 +10,11 @@
 //! - `holds_*`: a pattern on two events in turn, SIZE times; each event has a list of NUMBER objects.
 //! - `match_*`: an event matched NUMBER times against SIZE rules of one kind, of which ten hold for most kinds.
 //! - `share`: a rule set of SIZE rules, at most 300, shared NUMBER times.
+//! - `archives`: an archive of one day that keeps SIZE events on each of NUMBER days, then a purge of all; the microseconds of each day and of it.
 //! - `pattern`: standard input, read as a pattern and read as JSON, SIZE times each; NUMBER is ignored.
 #![tactic(auto)]
 
+mod archives;
 mod automata;
 mod events;
 mod numbered;
@@ -54,6 +56,7 @@ fn measure(
         "templates" => template(rt, size),
         "pattern" => pattern(rt, size),
         "share" => share(rt, size, number),
+        "archives" => archive(rt, size, number),
         _ if word.starts_with("holds") => holds(rt, word, size, number),
         _ if word.starts_with("match") => matching(rt, word, size, number),
         _ if word.starts_with("ranges") => range(rt, word, size, number),
@@ -151,6 +154,16 @@ fn share(rt: &(impl Print + Eprint + Clock + AllocGlobal), size: u32, number: u3
     let figures = sharing::measure(rt, rt.alloc(), size, number)?;
     println!(rt; "{}", figures.changes)?;
     eprintln!(rt; "{}", figures.took.as_micros())?;
+    Ok(())
+}
+
+fn archive(rt: &(impl Print + Eprint + Clock + AllocGlobal), size: u32, number: u32) -> Result<()> {
+    let figures = archives::measure(rt, rt.alloc(), size, number)?;
+    println!(rt; "{}", figures.kept)?;
+    for day in &figures.days {
+        eprint!(rt; "{} ", day.as_micros())?;
+    }
+    eprintln!(rt; "{}", figures.purged.as_micros())?;
     Ok(())
 }
 
